@@ -41,8 +41,9 @@ pub struct FactTable<'f> {
     killers: [Option<Move>; KILLERS],
     /// The replies that refuted the attacker's last move, the newest first.
     refuters: [Option<Move>; REFUTERS],
-    /// For each square the legal reply that met a check last which was given by a move to it, and the one before.
+    /// For each square the legal reply that met a check last which was given by a move to it.
     meeters: [Option<Move>; SQUARES],
+    /// For each square the one that did so before it.
     elder_meeters: [Option<Move>; SQUARES],
     /// How often replies refuted, by the attacker's moves, the kind and the target: as many counters as there is room for
     /// facts, and no more than `COUNTERS`.

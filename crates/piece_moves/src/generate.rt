@@ -142,22 +142,14 @@ pub fn push_mover<S: MoveSink>(
 }
 
 /// The own piece on the square and where it goes; None where there is none, or it is the pawn.
-pub fn mover_on(
-    rules: &Rules,
-    tables: &Tables,
-    p: &Position,
-    sets: &BoardSets,
-    from: Square,
-) -> Option<Mover>
-    requires fit { IsFit rules.now }
-    requires tables { tables.now ≡ rules.now }
-    requires sets { AreSets rules.now p.now.side p.now.cells sets.now }
+pub fn mover_on(tables: &Tables, p: &Position, sets: &BoardSets, from: Square) -> Option<Mover>
+    requires sets { AreSets tables.now p.now.side p.now.cells sets.now }
     requires from { from.0 < 120 }
-    ensures mover { IfSome result (IsMover rules.now p.now) }
+    ensures mover { IfSome result (IsMover tables.now p.now) }
     ensures from { IfSome result (λ mover. mover.from ≡ from) }
-    ensures none { IfNone result (own_piece rules.now p.now.side (cell_at p.now.cells from.0) ≡ None) }
+    ensures none { IfNone result (own_piece tables.now p.now.side (cell_at p.now.cells from.0) ≡ None) }
 {
-    let piece = own_piece(rules, p, from)?;
+    let piece = own_piece(tables.rules(), p, from)?;
     let targets = targets(tables, p, sets, piece, from);
     Some(Mover {
         piece,
@@ -168,24 +160,22 @@ pub fn mover_on(
 
 /// The same, without a gate, for a square with an own piece that is not the pawn.
 fn push_own<S: MoveSink>(
-    rules: &Rules,
     tables: &Tables,
     p: &Position,
     sets: &BoardSets,
     from: Square,
     out: &mut S,
 ) -> Result<(), S::Full>
-    requires fit { IsFit rules.now }
-    requires tables { tables.now ≡ rules.now }
-    requires sets { AreSets rules.now p.now.side p.now.cells sets.now }
+    requires sets { AreSets tables.now p.now.side p.now.cells sets.now }
     requires from { from.0 < 120 }
-    requires own { is_own p.now.side (λ kind. not (is_pawn rules.now kind)) (cell_at p.now.cells from.0) ≡ true }
-    ensures ok { OnOk result (TakesAll S.takes (IsMoveFrom rules.now (repeat_of p.now) from None) out.old out.new) }
-    ensures err { OnErr result (TakesSome S.stops (IsMoveFrom rules.now (repeat_of p.now) from None) out.old out.new) }
+    requires own { is_own p.now.side (λ kind. not (is_pawn tables.now kind)) (cell_at p.now.cells from.0) ≡ true }
+    ensures ok { OnOk result (TakesAll S.takes (IsMoveFrom tables.now (repeat_of p.now) from None) out.old out.new) }
+    ensures err { OnErr result (TakesSome S.stops (IsMoveFrom tables.now (repeat_of p.now) from None) out.old out.new) }
 {
     match cell_on(&p.cells, from.0) {
         None => Ok(()),
         Some(piece) => {
+            let rules = tables.rules();
             let targets = targets(tables, p, sets, piece, from);
             let mover = Mover {
                 piece,
@@ -216,7 +206,7 @@ pub fn push_moves<S: MoveSink>(
     sets_are_on_board();
     let mut left = sets.own_pieces();
     while let Some(from) = left.take_first() {
-        push_own(rules, tables, p, sets, Square(from), out)?;
+        push_own(tables, p, sets, Square(from), out)?;
     }
     Ok(())
 }

@@ -16,6 +16,9 @@ loop-from-init g c =
       taken = turn-none g.met.S.MoveSink.law _ start_of _ _ (from_piece _ _ _ are);
     }
 
+pub push_own-requires-clause-own : goal.push_own-requires-clause-own
+push_own-requires-clause-own g c = rw c.requires.tables (c.loop-from.invariant.own c.in-Some.from c.in-Some.ensures.some.member)
+
 pub loop-from-preserved : goal.loop-from-preserved
 loop-from-preserved g c =
     let small = c.loop-from.invariant.small c.in-Some.from c.in-Some.ensures.some.member in
@@ -23,14 +26,14 @@ loop-from-preserved g c =
       small = λ s e. c.loop-from.invariant.small s (and_parts (has c.loop-from.left s) (not (s == c.in-Some.from)) (sym (c.in-Some.ensures.rest s) ∙ e)).0;
       own = λ s e. c.loop-from.invariant.own s (and_parts (has c.loop-from.left s) (not (s == c.in-Some.from)) (sym (c.in-Some.ensures.rest s) ∙ e)).0;
       taken = turn-more g.met.S.MoveSink.law _ start_of _ _ _ _ _ _ c.in-Some.ensures.some.member c.in-Some.ensures.rest c.loop-from.invariant.taken
-          (fit-at _ _ (record { 0 = c.in-Some.from }) small g.S.MoveSink.takes _ _ c.in_ok-push_own.ensures.ok);
+          (fit-at _ _ (record { 0 = c.in-Some.from }) small g.S.MoveSink.takes _ _ (rw c.requires.tables at c.in_ok-push_own.ensures.ok));
     }
 
 pub returns-in_err-push_own-clause-err : goal.returns-in_err-push_own-clause-err
 returns-in_err-push_own-clause-err g c =
     let small = c.loop-from.invariant.small c.in-Some.from c.in-Some.ensures.some.member in
     on_err _ (turn-some g.met.S.MoveSink.law _ start_of _ _ _ _ _ c.in-Some.ensures.some.member c.loop-from.invariant.taken
-    (fit-some _ _ (record { 0 = c.in-Some.from }) small g.S.MoveSink.stops _ _ c.in_err-push_own.ensures.err))
+    (fit-some _ _ (record { 0 = c.in-Some.from }) small g.S.MoveSink.stops _ _ (rw c.requires.tables at c.in_err-push_own.ensures.err)))
 
 pub returns-clause-ok : goal.returns-clause-ok
 returns-clause-ok g c = turn-all g.S.MoveSink.takes _ start_of _ _ _ c.in_default.ensures.none c.loop-from.invariant.taken
