@@ -11,7 +11,7 @@ ghost use Rattle.square_set.specs.Members.{has};
 ghost use Rattle.board_sets.specs.Sets.{AreSets};
 ghost use Rattle.piece_moves.specs.Goals.{own_piece};
 ghost use Rattle.piece_moves.specs.Movers.{IsMoveOf, IsMoveTo, IsMover};
-ghost use Rattle.piece_moves.specs.Parts.{FitPieceMoves, IsMoveFrom};
+ghost use Rattle.piece_moves.specs.Parts.{FitMovesFrom, FitPieceMoves, IsMoveFrom};
 ghost use Rattle.piece_moves.specs.Plain as Plain;
 
 use crate::piece::own_piece;
@@ -187,6 +187,28 @@ fn push_own<S: MoveSink>(
     }
 }
 
+/// Gives the ordinary moves of the own pieces on these squares that are not the pawn, without a gate, each once and in no
+/// special order. Where the sink is full, it was given some of them, each at most once.
+pub fn push_moves_from<S: MoveSink>(
+    tables: &Tables,
+    p: &Position,
+    sets: &BoardSets,
+    from: Set,
+    out: &mut S,
+) -> Result<(), S::Full>
+    requires sets { AreSets tables.now p.now.side p.now.cells sets.now }
+    ensures ok { OnOk result (TakesAll S.takes (FitMovesFrom tables.now (repeat_of p.now) from) out.old out.new) }
+    ensures err { OnErr result (TakesSome S.stops (FitMovesFrom tables.now (repeat_of p.now) from) out.old out.new) }
+{
+    prove_position_sizes(p);
+    sets_are_on_board();
+    let mut left = sets.own_pieces().and(from);
+    while let Some(at) = left.take_first() {
+        push_own(tables, p, sets, Square(at), out)?;
+    }
+    Ok(())
+}
+
 /// Gives the ordinary moves of the own pieces that are not the pawn, without a gate, each once and in no special order:
 /// those for which `is_candidate` answers yes. Where the sink is full, it was given some of them, each at most once.
 pub fn push_moves<S: MoveSink>(
@@ -202,11 +224,5 @@ pub fn push_moves<S: MoveSink>(
     ensures ok { OnOk result (TakesAll S.takes (FitPieceMoves rules.now (repeat_of p.now)) out.old out.new) }
     ensures err { OnErr result (TakesSome S.stops (FitPieceMoves rules.now (repeat_of p.now)) out.old out.new) }
 {
-    prove_position_sizes(p);
-    sets_are_on_board();
-    let mut left = sets.own_pieces();
-    while let Some(from) = left.take_first() {
-        push_own(tables, p, sets, Square(from), out)?;
-    }
-    Ok(())
+    push_moves_from(tables, p, sets, sets.own_pieces(), out)
 }
