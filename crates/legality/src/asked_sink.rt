@@ -64,8 +64,14 @@ impl<'a, 'b> MoveSink for AskedSink<'a, 'b> {
     }
 
     fn take_shifted(&mut self, shift: Shift, targets: Set) -> Result<(), Memory> {
-        let p = self.keeper.move_filter.pin_info.p;
-        let asked = self.asked.of_shift(p, shift, targets);
+        let pin_info = self.keeper.move_filter.pin_info;
+        let asked = self.asked.of_shift(
+            pin_info.tables,
+            pin_info.p,
+            &pin_info.sets,
+            shift,
+            targets,
+        );
         if asked.is_empty() {
             return Ok(());
         }
