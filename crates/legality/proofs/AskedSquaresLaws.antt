@@ -1,12 +1,11 @@
 -- Squares from which no move is asked for, and the list of the moves from them.
-use Rattle.std.proofs.Common.{◌≡◌, ℕ, ◌<◌, Bool, true, false, ◌&&◌, ◌||◌, not, is_some, ◌⊎◌, inl, inr, Option, Some, None, List, ◌++◌, refl, sym, ap, ◌∙◌, append-nil}
+use Rattle.std.proofs.Common.{◌≡◌, Bool, true, false, ◌&&◌, ◌||◌, not, is_some, ◌⊎◌, inl, inr, Option, Some, None, List, ◌++◌, refl, sym, ap, ◌∙◌, append-nil}
 use Rattle.std.specs.List.{filter}
 use Rattle.std.proofs.lemmas.Bool.{and_from, and_parts, and_right, not-true, or_from, or_parts}
 use Rattle.foundation.specs.Member.{Member, Lists}
 use Rattle.foundation.proofs.Members.{filter-member, member-filter}
 use Rattle.foundation.proofs.Ordered.{sorted-once}
 use Rattle.rules_model.specs.declared.board.Cell.{Cell}
-use Rattle.rules_model.specs.declared.board.Kind.{Kind}
 use Rattle.rules_model.specs.declared.board.Repeat.{Repeat}
 use Rattle.rules_model.specs.declared.board.Square.{Square}
 use Rattle.rules_model.specs.declared.moves.Move.{Move}
@@ -28,7 +27,6 @@ use Rattle.square_set.specs.declared.Set.{Set}
 use Rattle.square_set.specs.Members.{has}
 use Rattle.square_set.proofs.Cases.{by_bool}
 use Rattle.move_tables.specs.Occupied.{AreMen, IsOccupied}
-use Rattle.attack_tables.specs.Goals.{is_goal}
 use Rattle.piece_moves.specs.Goals.{own_piece}
 use Rattle.piece_moves.specs.InTurn.{Outside, start_of}
 use Rattle.piece_moves.specs.Parts.{FitMovesFrom, FitPieceMoves}
@@ -40,7 +38,7 @@ use Rattle.legality.specs.declared.asked.Asked.{Asked}
 use Rattle.legality.specs.declared.asked_sink.AskedSink.{AskedSink}
 use Rattle.legality.specs.AskedChoices.{KeepsAsked, asked_by, filter_of}
 use Rattle.legality.specs.AskedSquares.{AsksNoneFrom, GoesInVain, HasAskedStarts}
-use Rattle.legality.specs.Asking.{is_asked, is_to}
+use Rattle.legality.specs.Asking.{is_asked, is_to, is_to_of}
 use Rattle.legality.specs.Choices.{chosen_by}
 use Rattle.legality.proofs.AskedLaws.{asked_sink}
 use Rattle.legality.proofs.ListLaws.{once_filter}
@@ -60,6 +58,10 @@ no_goal p w q o b v t e quiet takes none =
 pub no_promoted : {X : Type 0} (o : Option X) → is_some o ≡ false → o ≡ None
 no_promoted None e = refl
 no_promoted (Some x) e = cc
+
+no_plus : {X : Type 0} (o : Option X) (there : Bool) → o ≡ None → (is_some o && there) ≡ true → ⊥
+no_plus None there e f = cc
+no_plus (Some x) there e f = cc
 
 pub none_hit : (goal there : Bool) → (goal && there) ≡ false → goal ≡ true → there ≡ false
 none_hit true there e f = e
@@ -85,12 +87,16 @@ module _ (asked : Asked) (rules : Rules) (r : Repeat) (piece : Cell) (from : Squ
 
   -- one that stays what it is, to a square that is not one of its kind's
   unasked : (t : Square) → has asked.shut from.0 ≡ true → same_side piece.side r.side ≡ true → is_to asked piece.kind t.0 ≡ false → cell_at r.cells from.0 ≡ Some piece → is_asked asked r (Go from t Stays None) ≡ false
-  unasked t shut own miss is = rw (shut, is, own, miss) refl
+  unasked t shut own miss is =
+      ap (λ b. not b || is_to_of asked r.side (cell_at r.cells from.0) t.0) shut
+      ∙ ap (λ o. is_to_of asked r.side o t.0) is
+      ∙ ap (λ b. not b || is_to asked piece.kind t.0) own
+      ∙ miss
 
   by_promo : (t : Square) (promo : Promo) → promoted_of rules piece.kind ≡ None → piece_promo rules (may_plus rules r.side piece.kind from.0 t.0) promo ≡ true → is_asked asked r (Go from t Stays None) ≡ false → is_asked asked r (Go from t promo None) ≡ false
   by_promo t Stays none e f = f
   by_promo t (Pawn kind) none e f = cc
-  by_promo t Plus none e f = let g = rw none at e in cc
+  by_promo t Plus none e f = absurd (no_plus (promoted_of rules piece.kind) _ none e)
 
   pub vain_none : (occupied enemies : Set) → IsOccupied occupied r.cells → AreMen (other r.side) r.cells enemies → has asked.shut from.0 ≡ true → cell_at r.cells from.0 ≡ Some piece
       → is_own r.side (λ kind. not (is_pawn rules kind)) (cell_at r.cells from.0) ≡ true → GoesInVain asked rules r.side piece.kind from occupied enemies → AsksNoneFrom asked rules r from.0

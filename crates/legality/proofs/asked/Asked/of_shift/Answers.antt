@@ -1,4 +1,4 @@
-use Rattle.std.proofs.Common.{◌≡◌, ◌&&◌, ◌||◌, not, true, sym, ap, ◌∙◌, arith}
+use Rattle.std.proofs.Common.{◌≡◌, ◌||◌, not, sym, ap, ◌∙◌, arith}
 use Rattle.std.proofs.lemmas.Bool.{and_parts}
 use Rattle.rules_model.specs.Repeats.{repeat_of}
 use Rattle.square_set.specs.Members.{has, origin}
@@ -7,8 +7,8 @@ use Rattle.legality.proofs.AskingLaws.{by_kind_or_each, pawn_asked}
 use Rattle.legality.proofs.ShiftLaws.{led_from, led_is}
 use Rattle.legality.proofs.asked.Asked.of_shift.Goals as goal
 
-pub of_each-2-requires-clause-starts : goal.of_each-2-requires-clause-starts
-of_each-2-requires-clause-starts c = λ s e. c.requires.starts s (and_parts (has c.args.targets s) (not (has c.shifted-pawns.result s)) (sym (c.minus.ensures s) ∙ e)).0
+pub of_each-others-requires-clause-starts : goal.of_each-others-requires-clause-starts
+of_each-others-requires-clause-starts c = λ s e. c.requires.starts s (and_parts (has c.args.targets s) (not (has c.shifted-pawns.result s)) (sym (c.minus.ensures s) ∙ e)).0
 
 pub returns-in-Some : goal.returns-in-Some
 returns-in-Some c = λ s.
