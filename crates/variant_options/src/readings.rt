@@ -9,13 +9,10 @@ ghost use Rattle.variant_options.specs.Words as Words;
 use crate::letters::{letter, mask_in};
 use crate::value::{Area, Listed};
 use foundation::number_within;
-use rules_model::{Kind, Region, Value};
+use rules_model::{FILES, Kind, Region, Value};
 use std::alloc::{AllocError, Global};
 
-/// How many files the largest board has.
-pub const FILES: u8 = 12;
-
-/// How many squares it has.
+/// How many squares the largest board has.
 pub const SQUARES: u8 = 120;
 
 pub const ALL_SQUARES: Region = Region {
