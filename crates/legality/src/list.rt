@@ -11,7 +11,7 @@ ghost use Rattle.legality.specs.Chosen.{AppendsChosen};
 ghost use Rattle.legality.specs.Stance.{IsCaptureIn, IsOtherIn, legal_in};
 
 use crate::asked::Asked;
-use crate::asked_sink::AskedSink;
+use crate::asked_sink::{AskedSink, push_asked_candidates};
 use crate::candidates::push_candidates;
 use crate::list_sink::ListSink;
 use crate::move_filter::{GenType, MoveFilter};
@@ -80,20 +80,13 @@ fn push_asked_of(
         (repeat_of move_filter.entry.pin_info.p.now) move_filter.entry.gen_type out.old out.new) }
     ensures err { OnErr result (out.new ≡ out.old) }
 {
-    let pin_info = move_filter.pin_info;
     let start = length_of(out);
     let list = emptied(out)?;
     let mut sink = AskedSink {
         keeper: ListSink { move_filter, list },
         asked,
     };
-    let pushed = push_candidates(
-        pin_info.tables.rules(),
-        pin_info.tables,
-        pin_info.p,
-        &pin_info.sets,
-        &mut sink,
-    );
+    let pushed = push_asked_candidates(&mut sink);
     mem::swap(out, &mut sink.keeper.list);
     match pushed {
         Ok(()) => Ok(()),
