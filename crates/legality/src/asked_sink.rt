@@ -38,7 +38,8 @@ impl<'a, 'b> AskedSink<'a, 'b> {
     }
 }
 
-/// Gives the sink the candidates, each once and in no special order, but for moves of pieces of which none is asked for.
+/// Puts the candidates that are chosen and asked for at the end of the sink's list, each once and in no special order.
+/// Pieces of which no move is asked for are not looked at.
 pub(crate) fn push_asked_candidates(out: &mut AskedSink<'_, '_>) -> Result<(), Memory>
     ensures ok { OnOk result (TakesAll KeepsAsked (FitCandidatesOf out.old) out.old out.new) }
     ensures err { OnErr result (TakesSome KeepsAsked (FitCandidatesOf out.old) out.old out.new) }

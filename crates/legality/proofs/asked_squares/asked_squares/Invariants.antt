@@ -12,7 +12,7 @@ invariant-loop-from l = record {
   small : (s : ℕ) → has l.left s ≡ true → s < 120;
   own : (s : ℕ) → has l.left s ≡ true → is_own l.p.side (λ kind. not (is_pawn l.tables kind)) (cell_at l.p.cells s) ≡ true;
   shut : (s : ℕ) → has l.left s ≡ true → has l.asked.shut s ≡ true;
-  none : (s : ℕ) → has l.pieces s ≡ true → has l.squares s ≡ false → AsksNoneFrom l.asked l.tables (repeat_of l.p) s;
+  none : (s : ℕ) → has l.initial.squares s ≡ true → has l.squares s ≡ false → AsksNoneFrom l.asked l.tables (repeat_of l.p) s;
 }
 
 abbrev pub decreases-loop-from : goal.decreases-loop-from
