@@ -25,7 +25,10 @@ use Rattle.legality.proofs.PinLaws.{not_safe_not_sane}
 use Rattle.legality.proofs.WantedLaws.{not_wanted, unwanted_there}
 
 pub led_is : (shift : Shift) (set : Set) (t : ℕ) → HasOrigin shift 120 t → is_led shift set t ≡ has set (origin shift t)
-led_is (Up n) set t h = ap (λ b. b && has set (t - n)) (let l = h.0 in grind arith)
+led_is (Up n) set t h =
+    let l = h.0 in
+    let e : nat_le n t ≡ true = grind arith in
+    ap (λ b. b && has set (t - n)) e
 led_is (Down n) set t h = refl
 
 pub led_from : (shift : Shift) (set : Set) (t : ℕ) → is_led shift set t ≡ true → has set (origin shift t) ≡ true
