@@ -19,7 +19,7 @@ use Rattle.rules_model.specs.Sides.{same_side}
 use Rattle.rules_model.specs.Squares.{cell_at}
 use Rattle.rules_model.proofs.LegalLaws.{legal-member}
 use Rattle.square_set.specs.declared.Set.{Set}
-use Rattle.square_set.specs.Members.{has}
+use Rattle.square_set.specs.Members.{has, IsWithout}
 use Rattle.square_set.proofs.Cases.{by_bool, by_equal, by_order}
 use Rattle.move_tables.specs.Occupied.{IsOccupied}
 use Rattle.legality.specs.declared.asked.Asked.{Asked}
@@ -62,6 +62,14 @@ set_more P sets n x small old new k l d =
     (λ q e. let At : ℕ → Type 0 = λ j. P j (slice_index_or (slice_set sets n x) j d) in
     subst At (sym e) (subst (P n) (sym (get_or-set_same sets n x d small)) new))
     (λ q e. subst (P k) (sym (get_or-set_other sets n k x d e)) (old k (omega (arith, l, e)) d))
+
+-- a set that is empty without a square has no other
+pub only-one : (squares rest : Set) (at : ℕ) → IsWithout squares at rest → ((t : ℕ) → has rest t ≡ false) → (s : ℕ) → has squares s ≡ true → s ≡ at
+only-one squares rest at without none s h =
+    by_equal s at (s ≡ at) (λ q e. e)
+    (λ q e.
+    let left : has rest s ≡ true = without s ∙ rw (h, q) refl in
+    absurd (let no = none s in let f : ⊥ = cc in f))
 
 -- every square is one of the full set
 pub not_all : (at : ℕ) → at < 120 → has (record { 0 = 2 ^ 128 - 1 }) at ≡ false → ⊥

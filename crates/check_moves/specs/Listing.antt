@@ -25,6 +25,10 @@ AreTakers rules by kind kings takers =
 abbrev pub TakesNone : Rules → Side → ℕ → Set → ℕ → Type 0
 TakesNone rules by kind kings from = (king : ℕ) → has kings king ≡ true → NeverTakes rules by kind from king
 
+-- the set has no other square
+abbrev pub IsOnlyOf : Set → ℕ → Type 0
+IsOnlyOf squares at = (at < 120) × ((s : ℕ) → has squares s ≡ true → s ≡ at)
+
 -- the occupied squares after a piece went from the one square to the other
 pub record MovedSet (old : Set) (from to : ℕ) : Type 0 where
   pub set : Set

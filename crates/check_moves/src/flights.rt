@@ -324,6 +324,18 @@ impl KnownFlights {
         None
     }
 
+    /// Looks for a step to keep at the place, where none is.
+    pub(crate) fn look_at(&mut self, board: &Board, place: usize)
+        requires place { place < 8 }
+        requires flights { Spec.AreFlights board.now self.old }
+        ensures { Spec.AreFlights board.now self.new }
+    {
+        if self.found[place].is_none() {
+            let found = self.look_on(board);
+            self.found[place] = found;
+        }
+    }
+
     /// The step that is kept at the place, or one that is looked for where none is.
     pub(crate) fn step_at(&mut self, board: &Board, place: usize) -> Option<Flight>
         requires place { place < 8 }
@@ -331,13 +343,22 @@ impl KnownFlights {
         ensures kept { Spec.AreFlights board.now self.new }
         ensures found { IfSome result (Spec.IsFlight board.now) }
     {
-        let known = self.found[place];
-        if known.is_some() {
-            return known;
+        self.look_at(board, place);
+        self.found[place]
+    }
+
+    /// Whether a step is kept at the place of which it is known that it is legal once the move is made, if the game goes on
+    /// then.
+    fn is_left_at(&self, board: &Board, place: usize, m: &Move) -> bool
+        requires place { place < 8 }
+        requires move_fits { IsFitMove m.now }
+        requires flights { Spec.AreFlights board.now self.now }
+        ensures { OnTrue result (Spec.IsMet board.now m.now) }
+    {
+        match &self.found[place] {
+            Some(flight) => leaves_step(board, flight, m),
+            None => false,
         }
-        let found = self.look_on(board);
-        self.found[place] = found;
-        found
     }
 
     /// Brings the step at the place to the front.
@@ -359,10 +380,11 @@ impl KnownFlights {
         ensures met { OnTrue result (Spec.IsMet board.now m.now) }
     {
         for i in 0..FLIGHTS {
-            let Some(flight) = self.step_at(board, i) else {
+            self.look_at(board, i);
+            if self.found[i].is_none() {
                 return false;
-            };
-            if leaves_step(board, &flight, m) {
+            }
+            if self.is_left_at(board, i, m) {
                 self.bring_to_front(i);
                 return true;
             }

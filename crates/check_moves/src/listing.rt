@@ -29,6 +29,35 @@ fn takers_of_kings(tables: &Tables, by: Side, kind: Kind, kings: Set) -> Set
     takers
 }
 
+/// The square of the set, where it has but one.
+fn only_of(squares: Set) -> Option<u8>
+    requires { OnSquares squares }
+    ensures { IfSome result (Spec.IsOnlyOf squares) }
+{
+    let mut rest = squares;
+    let Some(at) = rest.take_first() else {
+        return None;
+    };
+    if !rest.is_empty() {
+        return None;
+    }
+    Some(at)
+}
+
+/// The same as `takers_of_kings`, where `only` is the square of the only king, if there is one king. It is looked for once
+/// for all kinds.
+fn takers_by(tables: &Tables, by: Side, kind: Kind, kings: Set, only: Option<u8>) -> Set
+    requires kind { kind.0 < 26 }
+    requires kings { OnSquares kings }
+    requires only { IfSome only (Spec.IsOnlyOf kings) }
+    ensures { Spec.AreTakers tables.now by kind.0 kings result }
+{
+    match only {
+        Some(at) => tables.takers_of(by, kind, Square(at)),
+        None => takers_of_kings(tables, by, kind, kings),
+    }
+}
+
 /// The square of en passant.
 fn passed_square(ep: Option<Square>) -> Set
     ensures { (s : ℕ) → is_ep ep s ≡ true → s < 120 → has result s ≡ true }
@@ -90,8 +119,16 @@ fn quiet_squares(checks: &Checks, step: &Option<Flight>) -> Set
 
 /// Squares outside of which no piece of the kind gives check and closes the step by coming there. They have that of en
 /// passant. They are all for a kind that the variant does not have, since none is asked of it.
-fn asked_to(board: &Board, checks: &Checks, step: &Option<Flight>, passed: Set, kind: Kind) -> Set
+fn asked_to(
+    board: &Board,
+    checks: &Checks,
+    only: Option<u8>,
+    step: &Option<Flight>,
+    passed: Set,
+    kind: Kind,
+) -> Set
     requires kings { OnSquares checks.now.kings }
+    requires only { IfSome only (Spec.IsOnlyOf checks.now.kings) }
     requires step { IfSome step.now (Spec.IsToClose board.now) }
     requires passed { (s : ℕ) → is_ep board.now.position.ep s ≡ true → s < 120 → has passed s ≡ true }
     requires kind { kind.0 < 26 }
@@ -101,27 +138,26 @@ fn asked_to(board: &Board, checks: &Checks, step: &Option<Flight>, passed: Set, 
     if tables.rules().kinds[kind.0 as usize].is_none() {
         return ALL;
     }
-    let takers = takers_of_kings(tables, board.position().side, kind, checks.kings);
+    let takers = takers_by(tables, board.position().side, kind, checks.kings, only);
     takers.and(closers(board, kind, step)).or(passed)
 }
 
-/// Which moves are asked for, so that each of the others gives no check where kings do not fly, or leaves the step
-/// open.
-fn asked_of(board: &Board, checks: &Checks, step: &Option<Flight>) -> Asked
+/// Asks for moves, so that each of the others gives no check where kings do not fly, or leaves the step open. What was
+/// asked for before is forgotten.
+fn ask(board: &Board, checks: &Checks, step: &Option<Flight>, asked: &mut Asked)
     requires checks { AreChecksIn board.now checks.now }
     requires step { IfSome step.now (Spec.IsToClose board.now) }
-    ensures { Spec.IsAskedOf board.now checks.now step.now result }
+    ensures { Spec.IsAskedOf board.now checks.now step.now asked.new }
 {
     let p = board.position();
     prove_position_sizes(p);
     let passed = passed_square(p.ep);
-    let mut to = [EMPTY; KINDS];
+    let only = only_of(checks.kings);
+    // What is read makes the number of the sets known to the proof.
+    let _first = asked.to[0];
+    asked.shut = quiet_squares(checks, step);
     for kind in 0..26u8 {
-        to[kind as usize] = asked_to(board, checks, step, passed, Kind(kind));
-    }
-    Asked {
-        shut: quiet_squares(checks, step),
-        to,
+        asked.to[kind as usize] = asked_to(board, checks, only, step, passed, Kind(kind));
     }
 }
 
@@ -155,6 +191,10 @@ pub fn push_checks(
     prove_position_sizes(board.position());
     prove_moved(board.sets().occupied());
     let step = step_to_close(board, flights);
-    let asked = asked_of(board, checks, &step);
+    let mut asked = Asked {
+        shut: EMPTY,
+        to: [EMPTY; KINDS],
+    };
+    ask(board, checks, &step, &mut asked);
     board.push_asked(&asked, out)
 }

@@ -16,9 +16,9 @@ returns c =
     let checks = c.args.checks.now in
     let step = c.args.step.now in
     let kind = c.args.kind.0 in
-    let takes = c.takers_of_kings-takers.result in
+    let takes = c.takers_by-takers.result in
     let By : Rules → Position → Type 0 = λ rules p. AreTakers rules p.side kind checks.kings takes in
-    let of_rules = subst (λ (x : Rules). By x c.position.result.now) c.tables-tables.ensures c.takers_of_kings-takers.ensures in
+    let of_rules = subst (λ (x : Rules). By x c.position.result.now) c.tables-tables.ensures c.takers_by-takers.ensures in
     let takers = subst (By s.rules) c.position.ensures of_rules in
     λ to low out.
     let p = or_parts (has c.and.result to) (has c.args.passed to) (sym (c.or.ensures to) ∙ out) in

@@ -14,5 +14,5 @@ returns-clause-ok c =
     let size = subst (λ (p : Position). length p.cells ≡ 120) c.position.ensures c.prove_position_sizes.ensures.cells in
     let walks = sym (ap (λ r. r.flying) (c.rules-rules.ensures.is ∙ c.tables.ensures)) ∙ c.if-rules.false in
     on_ok_weaker c.push_asked.result
-    (λ u. asked_listed s c.args.checks.now c.step_to_close-step.result c.asked_of-asked.result c.requires.checks c.step_to_close-step.ensures.step c.asked_of-asked.ensures size walks c.occupied.result occupied c.prove_moved.ensures _ _ u)
+    (λ u. asked_listed s c.args.checks.now c.step_to_close-step.result _ c.requires.checks c.step_to_close-step.ensures.step c.ask.ensures size walks c.occupied.result occupied c.prove_moved.ensures _ _ u)
     c.push_asked.ensures.ok
