@@ -31,8 +31,9 @@ fn grow_out(tree: &mut Tree, tables: &Tables) -> Result<(), Memory>
     ensures root { tree.new.root ≡ tree.old.root }
     ensures moves { tree.new.moves ≡ tree.old.moves }
 {
+    let mut way = tree.root_way(tables)?;
     'growing: loop {
-        match tree.grow(tables)? {
+        match tree.grow_on(&mut way)? {
             Grew::Expanded(_) => {}
             Grew::Settled => return Ok(()),
         }
