@@ -6,7 +6,6 @@ mod jobs;
 mod left;
 mod plan;
 mod race;
-mod repeat_watch;
 mod roots;
 mod searching;
 mod settling;

@@ -1,7 +1,7 @@
 //! What the workers of a race share. No cell has a rule: any value at any time does no harm.
 use foundation::Memory;
 use std::alloc::Global;
-use watching::{MoveMarks, Round, StopFlag};
+use watching::{MoveMarks, Round, StopFlag, Work};
 
 /// What the workers tell each other: whether they are to stop, and what became of each move.
 #[derive(Drop)]
@@ -32,5 +32,18 @@ impl SharedMoves {
     /// The move is finished.
     pub fn finish(&self, i: usize) {
         self.marks.finish(i);
+    }
+}
+
+/// The move of a place, as work that ends once another worker has finished the move.
+#[derive(Drop)]
+pub(crate) struct MoveToFinish<'s> {
+    pub shared: &'s SharedMoves,
+    pub place: usize,
+}
+
+impl Work for MoveToFinish<'_> {
+    fn is_over(&self) -> bool {
+        !self.shared.takes(self.place, Round::Unfinished)
     }
 }

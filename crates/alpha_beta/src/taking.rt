@@ -9,13 +9,13 @@ ghost use Rattle.alpha_beta.specs.Workers.{AreTrueFacts, IsPlan, IsSetAside, lin
 
 use crate::jobs::Job;
 use crate::plan::Plan;
-use crate::repeat_watch::RepeatWatch;
+use crate::shared::MoveToFinish;
 use foundation::Memory;
 use game_line::Line;
 use io_ports::Gate;
 use negamax::{Fact, SearchState, search_move};
 use rules_model::Move;
-use watching::{Halt, Helper, Round, Watch};
+use watching::{Halt, Helper, Round, Watch, WorkWatch};
 
 /// A move that another worker had taken, by its place.
 #[derive(Clone, Copy)]
@@ -129,10 +129,13 @@ fn repeat<'g, W: Watch, G: Gate>(
         → W.ended watch.old watch.new (lines_after plan.now other.now.chosen) why }
     ensures kept { OnOk result (line.new ≡ plan.now.line.now) }
 {
-    let mut racer = RepeatWatch {
-        watch,
+    let work = MoveToFinish {
         shared: plan.shared,
         place: other.place,
+    };
+    let mut racer = WorkWatch {
+        watch,
+        work: &work,
         told: false,
     };
     let end = take(

@@ -9,7 +9,7 @@ mod regions;
 pub mod sight;
 pub mod tables;
 
-pub use move_tables::{Mode, kings, men, occupied};
+pub use move_tables::{Mode, men, occupied};
 pub use pawns::PawnMasks;
 pub use sight::Sight;
 pub use tables::{Tables, cell_on};

@@ -62,7 +62,7 @@ module _ (rules : Rules) (a : Side) where
     behind-is p [] = refl
     behind-is p (m ∷ ms) = behind-is (next rules p m) ms
 
-    on-win : (n : ℕ) (r : Repeat) (c : ℕ) → AnyLines.OnWin Position Repeat Move (seen_by rules a) n (as_any g) r c → OnWin rules n g a r c
+    pub on-win : (n : ℕ) (r : Repeat) (c : ℕ) → AnyLines.OnWin Position Repeat Move (seen_by rules a) n (as_any g) r c → OnWin rules n g a r c
     on-win n r c h = record {
       line = h.line;
       short = h.short;

@@ -41,7 +41,7 @@ impl Game {
     {
         let rules = self.rules();
         let last = self.position();
-        match own_end(rules, &self.tables, last) {
+        match own_end(self.tables(), last) {
             Outcome::Ongoing => counted_end(rules, last, self.is_repeated()),
             end => end,
         }

@@ -19,7 +19,7 @@ use Rattle.game_play.specs.Played.{IsPlayed, Played, legal_in, longer, story}
 use Rattle.game_text.specs.declared.fault.GameFault.{GameFault}
 use Rattle.game_text.specs.declared.fault.GameFault.TheVariants.{BadMove, TooManyMoves}
 use Rattle.game_text.specs.declared.unmade.Unmade.TheVariants.{Faulty, Unread, Memory}
-use Rattle.game_text.specs.Playing.{and_then, goes_on, is_word, move_in, move_of, play, play_all}
+use Rattle.game_text.specs.Playing.{and_then, goes_on, is_word, most_plies, move_in, move_of, play, play_all}
 use Rattle.game_text.specs.ReadView.{NoGame, Plays}
 use Rattle.game_text.proofs.FindLemmas.{found-in, found-only, found-none}
 
@@ -66,11 +66,11 @@ module _ (rules : Rules) (p : Position) (text : List ℕ) (fit : IsFit rules) (s
 
 -- ---- one move
 
-pub play-longer : (g : Played) (text : List ℕ) (m : Move) → move_of g text ≡ Some m → length g.moves < 8192 → play g text ≡ Ok (longer g m)
+pub play-longer : (g : Played) (text : List ℕ) (m : Move) → move_of g text ≡ Some m → length g.moves < most_plies → play g text ≡ Ok (longer g m)
 unfolding play
 play-longer g text m is room = ap (goes_on g text) is ∙ ap (λ b. cond b (Ok (longer g m)) (Err TooManyMoves)) (lt-ltb _ _ room)
 
-pub play-full : (g : Played) (text : List ℕ) (m : Move) → move_of g text ≡ Some m → 8192 ≤ length g.moves → play g text ≡ Err TooManyMoves
+pub play-full : (g : Played) (text : List ℕ) (m : Move) → move_of g text ≡ Some m → most_plies ≤ length g.moves → play g text ≡ Err TooManyMoves
 unfolding play
 play-full g text m is full = ap (goes_on g text) is ∙ ap (λ b. cond b (Ok (longer g m)) (Err TooManyMoves)) (le-ltb _ _ full)
 
@@ -96,10 +96,10 @@ module _ (g : Played) (rules : Rules) (p : Position) (text : List ℕ) (played :
       → Plays {A = Unit {0}} (play g text) x (Err why)
   illegal-says x y m why names illegal same is = bad_says x y why same is (plays-illegal g.rules (story g).last text played.fit here_sound m (here_names m names) illegal)
 
-  pub played-says : (x : Played) (m : Move) → Names rules p text m → Member m (legal_in g) → length g.moves < 8192 → x ≡ longer g m → play g text ≡ Ok x
+  pub played-says : (x : Played) (m : Move) → Names rules p text m → Member m (legal_in g) → length g.moves < most_plies → x ≡ longer g m → play g text ≡ Ok x
   played-says x m names legal room is = play-longer g text m (plays-named g.rules (story g).last text played.fit here_sound m (here_names m names) legal) room ∙ ap Ok (sym is)
 
-  pub full-says : (m : Move) → Names rules p text m → Member m (legal_in g) → 8192 ≤ length g.moves → play g text ≡ Err TooManyMoves
+  pub full-says : (m : Move) → Names rules p text m → Member m (legal_in g) → most_plies ≤ length g.moves → play g text ≡ Err TooManyMoves
   full-says m names legal full = play-full g text m (plays-named g.rules (story g).last text played.fit here_sound m (here_names m names) legal) full
 
 -- ---- many moves

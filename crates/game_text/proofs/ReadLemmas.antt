@@ -14,6 +14,7 @@ use Rattle.variant_rules.specs.Entries.{Named, found}
 use Rattle.game_play.specs.Played.{Played}
 use Rattle.game_text.specs.declared.fault.GameFault.{GameFault}
 use Rattle.game_text.specs.declared.fault.GameFault.TheVariants.{Missing, UnknownVariant, RefusedVariant, BadPosition, LineTooLong}
+use Rattle.game_text.specs.declared.unmade.Unmade.{Unmade}
 use Rattle.game_text.specs.declared.unmade.Unmade.TheVariants.{Faulty, Unread, Memory}
 use Rattle.game_text.specs.GameText.{game_by, game_from, game_in, game_of, game_on, lines_by, lines_in, lines_of_game, lines_on, position_of, started, unless_faulty}
 use Rattle.game_text.specs.HeardLines.{HeardLines}
@@ -131,7 +132,7 @@ pub plays_same : (g next : Played) (text line : List ℕ) (why : NoGame) → tex
 plays_same g next text line why is plays = subst (λ t. Plays {A = Unit {0}} (play_all g (words_of t)) next (Err why)) is plays
 
 -- and then the source did not fail
-pub unplayed_heard : (said : Result Played GameFault) (now : Played) (why : NoGame) → Plays {A = Unit {0}} said now (Err why) → IsUnread {A = Unit {0}} (Err why) → ⊥
+pub unplayed_heard : {F V : Type 0} (said : Result V F) (now : V) (why : Unmade F) → Plays {A = Unit {0}} said now (Err why) → IsUnread {A = Unit {0}} (Err why) → ⊥
 unplayed_heard said now (Faulty fault) plays unread = unread
 unplayed_heard said now Unread plays unread = plays
 unplayed_heard said now Memory plays unread = unread
@@ -153,8 +154,8 @@ read_so_far a b start now number read = record {
   holds = inr (λ more. tt);
 }
 
--- why a game that was started was not played to the end
-pub says_told : (said : Result Played GameFault) (now : Played) (why : NoGame) → Says {A = Unit {0}} said now (Err why) → Tells said (Err why)
+-- why a game that was started was not played to the end, or another text not read to its end
+pub says_told : {F V : Type 0} (said : Result V F) (now : V) (why : Unmade F) → Says {A = Unit {0}} said now (Err why) → Tells {A = V} said (Err why)
 says_told said now (Faulty fault) says = says
 says_told said now Unread says = tt
 says_told said now Memory says = tt

@@ -10,6 +10,7 @@ use Rattle.rules_model.specs.Legal.{legal}
 use Rattle.rules_model.specs.MoveText.{text_of}
 use Rattle.rules_model.specs.Repeats.{repeat_of}
 use Rattle.game_play.specs.Played.{Played, longer, story}
+use Rattle.game_play.specs.declared.game.TheConstants.{MOST_PLIES}
 use Rattle.game_text.specs.declared.fault.GameFault.{GameFault}
 use Rattle.game_text.specs.declared.fault.GameFault.TheVariants.{BadMove, TooManyMoves}
 
@@ -26,7 +27,7 @@ words_of text = filter is_word (slice_split is_blank text)
 
 -- the most plies of a game
 abbrev pub most_plies : ℕ
-most_plies = 8192
+most_plies = MOST_PLIES
 
 -- the legal move of the position with this text
 unfoldable pub move_in : Rules → Position → List ℕ → Option Move

@@ -1,5 +1,5 @@
-//! Game texts: the name of a variant, a position and the moves that were played, read line by line into a game; and what
-//! the commands print of a game.
+//! Game texts: the name of a variant, a position and the moves that were played, read line by line into a game; and
+//! what the commands print of a game.
 //!
 //! Line 1 is the name of a variant, line 2 is `startpos` or a FEN, and the lines after them have the texts of moves,
 //! separated by spaces and tabs. The text ends with the input. A problem is a game text whose moves stand on line 3

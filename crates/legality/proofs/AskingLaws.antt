@@ -1,14 +1,22 @@
 -- Which moves are asked for.
-use Rattle.std.proofs.Common.{◌≡◌, ℕ, ◌<◌, ◌≤◌, Bool, true, false, ◌&&◌, ◌||◌, not, slice_index_or, refl, sym, ap}
-use Rattle.std.proofs.lemmas.Bool.{le-ltb, lt-ltb}
+use Rattle.std.proofs.Common.{◌≡◌, ℕ, ◌<◌, ◌≤◌, Bool, true, false, ◌&&◌, ◌||◌, not, ◌==◌, Option, Some, None, slice_index_or, refl, sym, ap, ◌∙◌}
+use Rattle.std.proofs.lemmas.Bool.{and_parts, le-ltb, lt-ltb}
 use Rattle.std.proofs.Math.Bool.{or-false}
+use Rattle.rules_model.specs.declared.board.Cell.{Cell}
 use Rattle.rules_model.specs.declared.board.Kind.{Kind}
+use Rattle.rules_model.specs.declared.board.Repeat.{Repeat}
+use Rattle.rules_model.specs.declared.rules.Rules.{Rules}
+use Rattle.rules_model.specs.Attacks.{is_own_pawn}
+use Rattle.rules_model.specs.Kinds.{is_pawn, names}
+use Rattle.rules_model.specs.Sides.{same_side}
+use Rattle.rules_model.specs.Squares.{cell_at}
 use Rattle.square_set.specs.declared.Set.{Set}
 use Rattle.square_set.specs.declared.Shift.{Shift}
 use Rattle.square_set.specs.declared.Shift.TheVariants.{Up, Down}
 use Rattle.square_set.specs.Members.{HasOrigin, has, origin}
+use Rattle.square_set.proofs.Cases.{by_equal}
 use Rattle.legality.specs.declared.asked.Asked.{Asked}
-use Rattle.legality.specs.Asking.{is_to}
+use Rattle.legality.specs.Asking.{is_asked_by, is_to, is_to_of}
 
 pub is_to-letter : (asked : Asked) (kind : Kind) (s : ℕ) → kind.0 < 26 → (those : Set) → those ≡ slice_index_or asked.to kind.0 (record { 0 = 0 }) → is_to asked kind s ≡ has those s
 is_to-letter asked kind s l those e = rw (lt-ltb kind.0 26 l) (ap (λ x. has x s) (sym e))
@@ -46,3 +54,27 @@ next_asked t l e q x y z lt el fx fy fz = rw (fx, fy, fz) (one_more t l e q lt e
 pub whole : (t : Bool) → (t && not false) ≡ t
 whole true = refl
 whole false = refl
+
+-- ---- the moves of pawns by a shift
+
+pub by_kind_or_each : (t p shut to asked : Bool) → (t ≡ true → p ≡ true → (not shut || to) ≡ asked) → (((t && p) && (not shut || to)) || ((t && not p) && asked)) ≡ (t && asked)
+by_kind_or_each false p shut to asked h = refl
+by_kind_or_each true true shut to asked h = or-false (not shut || to) ∙ h refl refl
+by_kind_or_each true false shut to asked h = refl
+
+same_kind : (a b : Kind) → a.0 ≡ b.0 → a ≡ b
+same_kind a b e = λ i. record { 0 = e i }
+
+module _ (asked : Asked) (rules : Rules) (r : Repeat) (kind : Kind) (is : rules.pawn ≡ Some kind) (s : ℕ) where
+  to_of_pawn : (o : Option Cell) → is_own_pawn rules r.side o ≡ true → is_to asked kind s ≡ is_to_of asked r.side o s
+  to_of_pawn None e = cc
+  to_of_pawn (Some c) e =
+      let p = and_parts (same_side c.side r.side) (is_pawn rules c.kind) e in
+      let named : (kind.0 == c.kind.0) ≡ true = ap (λ o. names o c.kind) (sym is) ∙ p.1 in
+      by_equal kind.0 c.kind.0 (is_to asked kind s ≡ (not (same_side c.side r.side) || is_to asked c.kind s))
+      (λ q f. ap (λ k. is_to asked k s) (same_kind kind c.kind f) ∙ ap (λ b. not b || is_to asked c.kind s) (sym p.0))
+      (λ q n. absurd (let g : ⊥ = cc in g))
+
+pub pawn_asked : (asked : Asked) (rules : Rules) (r : Repeat) (kind : Kind) (shift : Shift) (s : ℕ) → rules.pawn ≡ Some kind → is_own_pawn rules r.side (cell_at r.cells (origin shift s)) ≡ true
+    → (not (has asked.shut (origin shift s)) || is_to asked kind s) ≡ is_asked_by asked r shift s
+pawn_asked asked rules r kind shift s is own = ap (λ b. not (has asked.shut (origin shift s)) || b) (to_of_pawn asked rules r kind is s (cell_at r.cells (origin shift s)) own)

@@ -1,5 +1,5 @@
 -- The candidates, from the ordinary moves of pieces and the others.
-use Rattle.std.proofs.Common.{◌≡◌, ◌&&◌, not, true, ◌⊎◌, inl, inr, Option, Some, None, List}
+use Rattle.std.proofs.Common.{◌≡◌, ◌&&◌, not, true, ◌⊎◌, inl, inr, Option, Some, None, List, subst}
 use Rattle.std.proofs.lemmas.Bool.{and_parts, or_cases, or_left, or_right, not-true}
 use Rattle.rules_model.specs.declared.board.Cell.{Cell}
 use Rattle.rules_model.specs.declared.board.Repeat.{Repeat}
@@ -53,30 +53,20 @@ split rules r m h =
 apart : (rules : Rules) (r : Repeat) (m : Move) → FitPieceMoves rules r m → FitSpecialMoves rules r m → ⊥
 apart rules r m h k = special_apart rules r m h.1 k.1
 
-module _ {S : Type 0} {takes stops : S → List Move → S → Type 0} (sink : IsSink takes stops) (rules : Rules) (r : Repeat) where
-  pub candidates-all : (s t u : S) → TakesAll takes (FitPieceMoves rules r) s t → TakesAll takes (FitSpecialMoves rules r) t u → TakesAll takes (FitCandidates rules r) s u
+-- the moves of both kinds are those of some rules, which are these
+module _ {S : Type 0} {takes stops : S → List Move → S → Type 0} (sink : IsSink takes stops) (given rules : Rules) (same : given ≡ rules) (r : Repeat) where
+  pub candidates-all : (s t u : S) → TakesAll takes (FitPieceMoves given r) s t → TakesAll takes (FitSpecialMoves given r) t u → TakesAll takes (FitCandidates rules r) s u
   candidates-all s t u a b =
-      all-join sink (FitPieceMoves rules r) (FitSpecialMoves rules r) (FitCandidates rules r) s t u a b (apart rules r) (split rules r)
-      (λ m h. elim h as (λ _. FitCandidates rules r m) [ inl k ↦ from_piece rules r m k | inr k ↦ from_special rules r m k ])
+      let All : Rules → Type 0 = λ rules'. TakesAll takes (FitCandidates rules' r) s u in
+      subst All same (all-join sink (FitPieceMoves given r) (FitSpecialMoves given r) (FitCandidates given r) s t u a b (apart given r) (split given r)
+      (λ m h. elim h as (λ _. FitCandidates given r m) [ inl k ↦ from_piece given r m k | inr k ↦ from_special given r m k ]))
 
-  pub candidates-first : (s t : S) → TakesSome stops (FitPieceMoves rules r) s t → TakesSome stops (FitCandidates rules r) s t
-  candidates-first s t a = some-within stops (FitPieceMoves rules r) (FitCandidates rules r) s t a (from_piece rules r)
+  pub candidates-first : (s t : S) → TakesSome stops (FitPieceMoves given r) s t → TakesSome stops (FitCandidates rules r) s t
+  candidates-first s t a =
+      let Taken : Rules → Type 0 = λ rules'. TakesSome stops (FitCandidates rules' r) s t in
+      subst Taken same (some-within stops (FitPieceMoves given r) (FitCandidates given r) s t a (from_piece given r))
 
-  pub candidates-second : (s t u : S) → TakesAll takes (FitPieceMoves rules r) s t → TakesSome stops (FitSpecialMoves rules r) t u → TakesSome stops (FitCandidates rules r) s u
+  pub candidates-second : (s t u : S) → TakesAll takes (FitPieceMoves given r) s t → TakesSome stops (FitSpecialMoves given r) t u → TakesSome stops (FitCandidates rules r) s u
   candidates-second s t u a b =
-      some-behind sink (FitPieceMoves rules r) (FitSpecialMoves rules r) (FitCandidates rules r) s t u a b (apart rules r) (from_piece rules r) (from_special rules r)
-
-  -- ---- in the other order
-
-  pub reversed-all : (s t u : S) → TakesAll takes (FitSpecialMoves rules r) s t → TakesAll takes (FitPieceMoves rules r) t u → TakesAll takes (FitCandidates rules r) s u
-  reversed-all s t u a b =
-      all-join sink (FitSpecialMoves rules r) (FitPieceMoves rules r) (FitCandidates rules r) s t u a b (λ m h k. apart rules r m k h)
-      (λ m h. elim (split rules r m h) as (λ _. FitSpecialMoves rules r m ⊎ FitPieceMoves rules r m) [ inl k ↦ inr k | inr k ↦ inl k ])
-      (λ m h. elim h as (λ _. FitCandidates rules r m) [ inl k ↦ from_special rules r m k | inr k ↦ from_piece rules r m k ])
-
-  pub reversed-first : (s t : S) → TakesSome stops (FitSpecialMoves rules r) s t → TakesSome stops (FitCandidates rules r) s t
-  reversed-first s t a = some-within stops (FitSpecialMoves rules r) (FitCandidates rules r) s t a (from_special rules r)
-
-  pub reversed-second : (s t u : S) → TakesAll takes (FitSpecialMoves rules r) s t → TakesSome stops (FitPieceMoves rules r) t u → TakesSome stops (FitCandidates rules r) s u
-  reversed-second s t u a b =
-      some-behind sink (FitSpecialMoves rules r) (FitPieceMoves rules r) (FitCandidates rules r) s t u a b (λ m h k. apart rules r m k h) (from_special rules r) (from_piece rules r)
+      let Taken : Rules → Type 0 = λ rules'. TakesSome stops (FitCandidates rules' r) s u in
+      subst Taken same (some-behind sink (FitPieceMoves given r) (FitSpecialMoves given r) (FitCandidates given r) s t u a b (apart given r) (from_piece given r) (from_special given r))

@@ -1,5 +1,6 @@
 pub mod AllMade
 pub mod AskedLaws
+pub mod AskedSquaresLaws
 pub mod AskingLaws
 pub mod BoardLaws
 pub mod CandidateFit

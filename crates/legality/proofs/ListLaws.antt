@@ -263,12 +263,6 @@ module _ (rules made : Rules) (r q : Repeat) (same : made ≡ rules) (still : q 
   chosen_same : (gen_type : GenType) → is_chosen made q gen_type ≡ is_chosen rules r gen_type
   chosen_same gen_type = ap (λ rules'. is_chosen rules' q gen_type) same ∙ ap (λ r'. is_chosen rules r' gen_type) still
 
-  pub made_found : (gen_type : GenType) (ms : List Move) → Lists (FitCandidates rules r) ms → list_any (is_chosen made q gen_type) ms ≡ can_go rules r gen_type
-  made_found gen_type ms l = ap (λ test. list_any test ms) (chosen_same gen_type) ∙ found_is rules r gen_type ms l
-
-  pub made_goes : (gen_type : GenType) (ms : List Move) → ((m : Move) → Member m ms → FitCandidates rules r m) → list_any (is_chosen made q gen_type) ms ≡ true → can_go rules r gen_type ≡ true
-  made_goes gen_type ms sound e = found_goes rules r gen_type ms sound (sym (ap (λ test. list_any test ms) (chosen_same gen_type)) ∙ e)
-
   chosen_gen_type : (gen_type : GenType) (ms : List Move) → gen_type ≡ legal_gen_type rules r → filter (is_chosen made q gen_type) ms ≡ filter (is_chosen rules r (legal_gen_type rules r)) ms
   chosen_gen_type gen_type ms e = ap (λ test. filter test ms) (chosen_same gen_type ∙ ap (is_chosen rules r) e)
 

@@ -24,7 +24,14 @@ use Rattle.legality.proofs.GoLaws.{chosen_is_sane, not_chosen}
 use Rattle.legality.proofs.PinLaws.{not_safe_not_sane}
 use Rattle.legality.proofs.WantedLaws.{not_wanted, unwanted_there}
 
-led_from : (shift : Shift) (set : Set) (t : ℕ) → is_led shift set t ≡ true → has set (origin shift t) ≡ true
+pub led_is : (shift : Shift) (set : Set) (t : ℕ) → HasOrigin shift 120 t → is_led shift set t ≡ has set (origin shift t)
+led_is (Up n) set t h =
+    let l = h.0 in
+    let e : nat_le n t ≡ true = grind arith in
+    ap (λ b. b && has set (t - n)) e
+led_is (Down n) set t h = refl
+
+pub led_from : (shift : Shift) (set : Set) (t : ℕ) → is_led shift set t ≡ true → has set (origin shift t) ≡ true
 led_from (Up n) set t e = (and_parts (nat_le n t) (has set (t - n)) e).1
 led_from (Down n) set t e = e
 

@@ -31,6 +31,11 @@ asked_by f m = chosen_by f.move_filter m && is_asked f.asked (repeat_of f.move_f
 abbrev pub KeepsAsked : AskedSink → List Move → AskedSink → Type 0
 KeepsAsked = Kept filter_of (λ sink. sink.keeper.list) asked_by
 
+-- the candidates of its position
+abbrev pub FitCandidatesOf : AskedSink → Move → Type 0
+FitCandidatesOf sink =
+    FitCandidates sink.keeper.move_filter.pin_info.tables.now (repeat_of sink.keeper.move_filter.pin_info.p.now)
+
 -- the candidates that are chosen and asked for were appended
 abbrev pub AppendsAsked : Asked → Rules → Repeat → GenType → List Move → List Move → Type 0
 AppendsAsked asked rules r gen_type =

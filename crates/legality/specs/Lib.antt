@@ -1,4 +1,5 @@
 pub mod AskedChoices
+pub mod AskedSquares
 pub mod Asking
 pub mod Choices
 pub mod Chosen

@@ -9,8 +9,8 @@ use Rattle.rules_model.specs.declared.rules.Rules.{Rules}
 use Rattle.rules_model.specs.Ends.{early_end}
 use Rattle.rules_model.specs.Legal.{legal}
 use Rattle.rules_model.specs.Next.{captures, next}
-use Rattle.rules_model.specs.Ready.{IsReady}
 use Rattle.rules_model.specs.Repeats.{repeat_of}
+use Rattle.rules_model.specs.Sound.{is_sound}
 
 -- the rules, and a position by them
 pub record Stance : Type 0 where
@@ -37,7 +37,7 @@ IsOtherIn s m = Member m (legal_in s) × (captures s.rules (repeat_in s) m ≡ f
 abbrev pub after : Stance → Move → Stance
 after s m = record { rules = s.rules; position = next s.rules s.position m }
 
--- the position is sound for rules that fit, and this is its early end
+-- the position is sound, and this is its early end
 pub record IsKnown (rules : Rules) (position : Position) (early : Outcome) : Type 0 where
-  pub prove_ready : IsReady rules rules position
+  pub sound : is_sound rules position ≡ true
   pub is_early : early ≡ early_end rules (repeat_of position)

@@ -1,11 +1,13 @@
 //! Moves that are asked for by the square that is left, and by the kind that comes to another.
 ghost use Rattle.std.specs.Prelude.{◌≡◌, ◌<◌, ℕ, true, ◌&&◌, ◌||◌, not};
-ghost use Rattle.square_set.specs.Members.{has, length_of, HasOrigin};
+ghost use Rattle.square_set.specs.Members.{has, length_of, HasOrigin, OnSquares};
+ghost use Rattle.board_sets.specs.Sets.{AreSets};
 ghost use Rattle.rules_model.specs.Moves.{IsFitMove};
 ghost use Rattle.rules_model.specs.Repeats.{repeat_of};
 ghost use Rattle.legality.specs.Asking as Asking;
 
-use attack_tables::cell_on;
+use attack_tables::{Tables, cell_on};
+use board_sets::BoardSets;
 use rules_model::{KINDS, Kind, Move, Position, Promo, Square};
 use square_set::{EMPTY, Set, Shift};
 
@@ -60,8 +62,8 @@ impl Asked {
         }
     }
 
-    /// Of the targets to which the shift leads, those to which a move by it is asked for.
-    pub(crate) fn of_shift(&self, p: &Position, shift: Shift, targets: Set) -> Set
+    /// Of the targets to which the shift leads, those to which a move by it is asked for, one after the other.
+    fn of_each(&self, p: &Position, shift: Shift, targets: Set) -> Set
         requires length { length_of shift < 128 }
         requires starts { (s : ℕ) → has targets s ≡ true → HasOrigin shift 120 s }
         ensures { (s : ℕ) → has result s ≡ (has targets s && Asking.is_asked_by self.now (repeat_of p.now) shift s) }
@@ -75,12 +77,46 @@ impl Asked {
         asked
     }
 
+    /// Of the targets, those outside of the one set, and those of the kind.
+    fn of_open(&self, shut: Set, kind: Kind, targets: Set) -> Set
+        ensures { (s : ℕ) → has result s ≡ (has targets s && (not (has shut s) || Asking.is_to self.now kind s)) }
+    {
+        targets.minus(shut).or(self.of_kind(kind, targets))
+    }
+
+    /// Of the targets to which the shift leads, those to which a move by it is asked for: of pawns all at once.
+    pub(crate) fn of_shift(
+        &self,
+        tables: &Tables,
+        p: &Position,
+        sets: &BoardSets,
+        shift: Shift,
+        targets: Set,
+    ) -> Set
+        requires sets { AreSets tables.now p.now.side p.now.cells sets.now }
+        requires length { length_of shift < 128 }
+        requires targets { OnSquares targets }
+        requires starts { (s : ℕ) → has targets s ≡ true → HasOrigin shift 120 s }
+        ensures { (s : ℕ) → has result s ≡ (has targets s && Asking.is_asked_by self.now (repeat_of p.now) shift s) }
+    {
+        match tables.rules().pawn {
+            None => self.of_each(p, shift, targets),
+            Some(kind) => {
+                let shut = self.shut.shifted(shift);
+                let pawns = sets.own_pawns().shifted(shift);
+                let by_pawns = self.of_open(shut, kind, targets.and(pawns));
+                let others = self.of_each(p, shift, targets.minus(pawns));
+                by_pawns.or(others)
+            }
+        }
+    }
+
     /// Of the targets, those on which a drop of the kind is asked for.
     pub(crate) fn of_drops(&self, kind: Kind, targets: Set) -> Set
         requires { kind.0 < 26 }
         ensures { (s : ℕ) → has result s ≡ (has targets s && Asking.is_drop_asked self.now kind s) }
     {
-        targets.minus(self.shut).or(self.of_kind(kind, targets))
+        self.of_open(self.shut, kind, targets)
     }
 
     /// Whether the square is one of the kind's. A kind above 25 has none of its own: all are asked for.

@@ -1,9 +1,11 @@
 //! The list of the candidates that are chosen and asked for.
-ghost use Rattle.std.specs.Prelude.{◌≡◌};
-ghost use Rattle.legality.specs.AskedChoices.{asked_by};
+ghost use Rattle.std.specs.Prelude.{◌≡◌, OnOk, OnErr};
+ghost use Rattle.piece_moves.specs.Taking.{TakesAll, TakesSome};
+ghost use Rattle.legality.specs.AskedChoices.{FitCandidatesOf, KeepsAsked, asked_by};
 ghost use Rattle.legality.specs.Sinks.{Kept, keeper_is_sink};
 
 use crate::asked::Asked;
+use crate::asked_squares::asked_squares;
 use crate::list_sink::ListSink;
 use crate::move_filter::is_fit_move;
 use foundation::Memory;
@@ -36,6 +38,19 @@ impl<'a, 'b> AskedSink<'a, 'b> {
     }
 }
 
+/// Puts the candidates that are chosen and asked for at the end of the sink's list, each once and in no special order.
+/// Pieces of which no move is asked for are not looked at.
+pub(crate) fn push_asked_candidates(out: &mut AskedSink<'_, '_>) -> Result<(), Memory>
+    ensures ok { OnOk result (TakesAll KeepsAsked (FitCandidatesOf out.old) out.old out.new) }
+    ensures err { OnErr result (TakesSome KeepsAsked (FitCandidatesOf out.old) out.old out.new) }
+{
+    let pin_info = out.keeper.move_filter.pin_info;
+    let (tables, p, sets) = (pin_info.tables, pin_info.p, &pin_info.sets);
+    let from = asked_squares(out.asked, tables, p, sets);
+    piece_moves::push_moves_from(tables, p, sets, from, out)?;
+    special_moves::push_moves(tables.rules(), tables, p, sets, out)
+}
+
 impl<'a, 'b> MoveSink for AskedSink<'a, 'b> {
     ghost use Rattle.legality.specs.AskedChoices.{filter_of};
 
@@ -64,8 +79,14 @@ impl<'a, 'b> MoveSink for AskedSink<'a, 'b> {
     }
 
     fn take_shifted(&mut self, shift: Shift, targets: Set) -> Result<(), Memory> {
-        let p = self.keeper.move_filter.pin_info.p;
-        let asked = self.asked.of_shift(p, shift, targets);
+        let pin_info = self.keeper.move_filter.pin_info;
+        let asked = self.asked.of_shift(
+            pin_info.tables,
+            pin_info.p,
+            &pin_info.sets,
+            shift,
+            targets,
+        );
         if asked.is_empty() {
             return Ok(());
         }

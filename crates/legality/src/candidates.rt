@@ -20,36 +20,27 @@ use rules_model::{KINDS, Move, Position, Region, Rules, Side};
 
 /// Gives the sink the candidates, each once and in no special order: those for which `is_candidate` answers yes.
 pub(crate) fn push_candidates<S: MoveSink>(
-    rules: &Rules,
     tables: &Tables,
     p: &Position,
     sets: &BoardSets,
     out: &mut S,
 ) -> Result<(), S::Full>
-    requires fit { IsFit rules.now }
-    requires tables { tables.now ≡ rules.now }
-    requires sets { AreSets rules.now p.now.side p.now.cells sets.now }
-    ensures ok { OnOk result (TakesAll S.takes (FitCandidates rules.now (repeat_of p.now)) out.old out.new) }
-    ensures err { OnErr result (TakesSome S.stops (FitCandidates rules.now (repeat_of p.now)) out.old out.new) }
+    requires { AreSets tables.now p.now.side p.now.cells sets.now }
+    ensures ok { OnOk result (TakesAll S.takes (FitCandidates tables.now (repeat_of p.now)) out.old out.new) }
+    ensures err { OnErr result (TakesSome S.stops (FitCandidates tables.now (repeat_of p.now)) out.old out.new) }
 {
+    let rules = tables.rules();
     piece_moves::push_moves(rules, tables, p, sets, out)?;
     special_moves::push_moves(rules, tables, p, sets, out)
 }
 
 /// Whether the move is a candidate.
 #[tactic(auto, unfolding(rules_model::specs::Candidates::is_candidate))]
-pub(crate) fn is_candidate(
-    rules: &Rules,
-    tables: &Tables,
-    p: &Position,
-    sets: &BoardSets,
-    m: &Move,
-) -> bool
-    requires fit { IsFit rules.now }
-    requires tables { tables.now ≡ rules.now }
-    requires sets { AreSets rules.now p.now.side p.now.cells sets.now }
-    ensures { result ≡ Candidates.is_candidate rules.now (repeat_of p.now) m.now }
+pub(crate) fn is_candidate(tables: &Tables, p: &Position, sets: &BoardSets, m: &Move) -> bool
+    requires { AreSets tables.now p.now.side p.now.cells sets.now }
+    ensures { result ≡ Candidates.is_candidate tables.now (repeat_of p.now) m.now }
 {
+    let rules = tables.rules();
     piece_moves::is_candidate(rules, tables, p, sets, m)
         || special_moves::is_candidate(rules, tables, p, sets, m)
 }

@@ -8,15 +8,19 @@ use crate::flag::has_flag;
 use attack_tables::Tables;
 use board_sets::BoardSets;
 use end_rules::early_end_by;
-use rules_model::{Outcome, Position, Rules};
+use rules_model::{Outcome, Position};
 
 /// The same as `early_end` of `end_rules`, by the sets of the board, which the caller has.
-pub fn early_end_with(rules: &Rules, tables: &Tables, p: &Position, sets: &BoardSets) -> Outcome
-    requires tables { tables.now ≡ rules.now }
-    requires sets { AreSets rules.now p.now.side p.now.cells sets.now }
-    ensures { result ≡ Ends.early_end rules.now (repeat_of p.now) }
+pub fn early_end_with(tables: &Tables, p: &Position, sets: &BoardSets) -> Outcome
+    requires { AreSets tables.now p.now.side p.now.cells sets.now }
+    ensures { result ≡ Ends.early_end tables.now (repeat_of p.now) }
 {
-    early_end_by(rules, p, sets.occupied(), has_flag(rules, tables, p, sets))
+    early_end_by(
+        tables.rules(),
+        p,
+        sets.occupied(),
+        has_flag(tables, p, sets),
+    )
 }
 
 /// Whether there is no end.
@@ -31,10 +35,9 @@ pub(crate) fn is_ongoing(end: Outcome) -> bool
 }
 
 /// Whether the position has no end by itself before its moves are looked at.
-pub(crate) fn goes_on(rules: &Rules, tables: &Tables, p: &Position, sets: &BoardSets) -> bool
-    requires tables { tables.now ≡ rules.now }
-    requires sets { AreSets rules.now p.now.side p.now.cells sets.now }
-    ensures { result ≡ Ends.is_ongoing (Ends.early_end rules.now (repeat_of p.now)) }
+pub(crate) fn goes_on(tables: &Tables, p: &Position, sets: &BoardSets) -> bool
+    requires { AreSets tables.now p.now.side p.now.cells sets.now }
+    ensures { result ≡ Ends.is_ongoing (Ends.early_end tables.now (repeat_of p.now)) }
 {
-    is_ongoing(early_end_with(rules, tables, p, sets))
+    is_ongoing(early_end_with(tables, p, sets))
 }

@@ -35,11 +35,11 @@ fn finds_flag(rules: &Rules, cells: &Cells, side: Side, squares: Set) -> bool
 
 /// Whether the side that has moved has its flag piece in its flag region. Where the variant has no such kind, no square
 /// is looked at.
-pub(crate) fn has_flag(rules: &Rules, tables: &Tables, p: &Position, sets: &BoardSets) -> bool
-    requires tables { tables.now ≡ rules.now }
-    requires sets { AreSets rules.now p.now.side p.now.cells sets.now }
-    ensures { result ≡ Ends.has_flag rules.now p.now.cells (other p.now.side) }
+pub(crate) fn has_flag(tables: &Tables, p: &Position, sets: &BoardSets) -> bool
+    requires { AreSets tables.now p.now.side p.now.cells sets.now }
+    ensures { result ≡ Ends.has_flag tables.now p.now.cells (other p.now.side) }
 {
+    let rules = tables.rules();
     match rules.flag_kind {
         None => false,
         Some(_) => {

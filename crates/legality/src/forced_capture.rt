@@ -1,6 +1,5 @@
 //! Whether some allowed move is wanted, and whether only captures are legal.
 ghost use Rattle.std.specs.Prelude.{◌≡◌};
-ghost use Rattle.rules_model.specs.Fit.{IsFit};
 ghost use Rattle.rules_model.specs.Repeats.{repeat_of};
 ghost use Rattle.legality.specs.Chosen as Chosen;
 ghost use Rattle.legality.specs.Stance.{repeat_in};
@@ -12,19 +11,12 @@ use crate::move_gen::MoveGen;
 
 /// Whether some allowed move is wanted, by what is known of the position. It stops at the first.
 fn some_goes(move_filter: MoveFilter<'_>) -> bool
-    requires { IsFit move_filter.pin_info.tables.now }
     ensures { result ≡ Chosen.can_go move_filter.entry.pin_info.tables.now (repeat_of move_filter.entry.pin_info.p.now)
         move_filter.entry.gen_type }
 {
     let pin_info = move_filter.pin_info;
     let mut seeker = AnySink { move_filter };
-    match push_candidates(
-        pin_info.tables.rules(),
-        pin_info.tables,
-        pin_info.p,
-        &pin_info.sets,
-        &mut seeker,
-    ) {
+    match push_candidates(pin_info.tables, pin_info.p, &pin_info.sets, &mut seeker) {
         Ok(()) => false,
         Err(_) => true,
     }

@@ -4,6 +4,7 @@
 mod any_sink;
 mod asked;
 mod asked_sink;
+mod asked_squares;
 mod candidates;
 mod capture;
 mod count_sink;

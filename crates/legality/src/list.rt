@@ -1,7 +1,6 @@
 //! The list of the legal moves.
 ghost use Rattle.std.specs.Prelude.{◌≡◌, length, OnOk, OnErr, IfOk};
 ghost use Rattle.foundation.specs.Member.{Member, Appends};
-ghost use Rattle.rules_model.specs.Fit.{IsFit};
 ghost use Rattle.rules_model.specs.Legal.{legal};
 ghost use Rattle.rules_model.specs.Ready.{IsReady};
 ghost use Rattle.rules_model.specs.Repeats.{repeat_of};
@@ -11,7 +10,7 @@ ghost use Rattle.legality.specs.Chosen.{AppendsChosen};
 ghost use Rattle.legality.specs.Stance.{IsCaptureIn, IsOtherIn, legal_in};
 
 use crate::asked::Asked;
-use crate::asked_sink::AskedSink;
+use crate::asked_sink::{AskedSink, push_asked_candidates};
 use crate::candidates::push_candidates;
 use crate::list_sink::ListSink;
 use crate::move_filter::{GenType, MoveFilter};
@@ -43,7 +42,6 @@ fn emptied(list: &mut MoveList) -> Result<MoveList, Memory>
 
 /// Appends the candidates that are chosen, each once. Without memory the list is as it was.
 fn push_chosen(move_filter: MoveFilter<'_>, out: &mut MoveList) -> Result<(), Memory>
-    requires { IsFit move_filter.pin_info.tables.now }
     ensures ok { OnOk result (AppendsChosen move_filter.entry.pin_info.tables.now
         (repeat_of move_filter.entry.pin_info.p.now) move_filter.entry.gen_type out.old out.new) }
     ensures err { OnErr result (out.new ≡ out.old) }
@@ -52,13 +50,7 @@ fn push_chosen(move_filter: MoveFilter<'_>, out: &mut MoveList) -> Result<(), Me
     let start = length_of(out);
     let list = emptied(out)?;
     let mut keeper = ListSink { move_filter, list };
-    let pushed = push_candidates(
-        pin_info.tables.rules(),
-        pin_info.tables,
-        pin_info.p,
-        &pin_info.sets,
-        &mut keeper,
-    );
+    let pushed = push_candidates(pin_info.tables, pin_info.p, &pin_info.sets, &mut keeper);
     mem::swap(out, &mut keeper.list);
     match pushed {
         Ok(()) => Ok(()),
@@ -75,25 +67,17 @@ fn push_asked_of(
     asked: &Asked,
     out: &mut MoveList,
 ) -> Result<(), Memory>
-    requires { IsFit move_filter.pin_info.tables.now }
     ensures ok { OnOk result (AppendsAsked asked.now move_filter.entry.pin_info.tables.now
         (repeat_of move_filter.entry.pin_info.p.now) move_filter.entry.gen_type out.old out.new) }
     ensures err { OnErr result (out.new ≡ out.old) }
 {
-    let pin_info = move_filter.pin_info;
     let start = length_of(out);
     let list = emptied(out)?;
     let mut sink = AskedSink {
         keeper: ListSink { move_filter, list },
         asked,
     };
-    let pushed = push_candidates(
-        pin_info.tables.rules(),
-        pin_info.tables,
-        pin_info.p,
-        &pin_info.sets,
-        &mut sink,
-    );
+    let pushed = push_asked_candidates(&mut sink);
     mem::swap(out, &mut sink.keeper.list);
     match pushed {
         Ok(()) => Ok(()),
@@ -187,5 +171,5 @@ pub fn legal_moves(
     ensures { IfOk result (λ ms. ms ≡ legal rules.now (repeat_of p.now)) }
 {
     let sets = sets_of(rules, &p.cells, p.side);
-    MoveGen::of(rules, tables, p, &sets).legal_moves(alloc)
+    MoveGen::of(tables, p, &sets).legal_moves(alloc)
 }

@@ -41,66 +41,58 @@ pub(crate) fn king_attacked_on(tables: &Tables, cells: &Cells, side: Side, sets:
 }
 
 /// Whether the king of the side to move is attacked, by the sets of the board, which the caller has.
-pub fn king_attacked_with(rules: &Rules, tables: &Tables, p: &Position, sets: &BoardSets) -> bool
-    requires tables { tables.now ≡ rules.now }
-    requires sets { AreSets rules.now p.now.side p.now.cells sets.now }
-    ensures { result ≡ Attacks.king_attacked rules.now p.now.cells p.now.side }
+pub fn king_attacked_with(tables: &Tables, p: &Position, sets: &BoardSets) -> bool
+    requires { AreSets tables.now p.now.side p.now.cells sets.now }
+    ensures { result ≡ Attacks.king_attacked tables.now p.now.cells p.now.side }
 {
     king_attacked_on(tables, &p.cells, p.side, sets)
 }
 
 /// Whether the king of the side to move is attacked, and such a check counts.
-fn is_check_counted(rules: &Rules, tables: &Tables, p: &Position, sets: &BoardSets) -> bool
-    requires tables { tables.now ≡ rules.now }
-    requires sets { AreSets rules.now p.now.side p.now.cells sets.now }
-    ensures { result ≡ (rules.now.check_counting && Attacks.king_attacked rules.now p.now.cells p.now.side) }
+fn is_check_counted(tables: &Tables, p: &Position, sets: &BoardSets) -> bool
+    requires { AreSets tables.now p.now.side p.now.cells sets.now }
+    ensures { result ≡ (tables.now.check_counting && Attacks.king_attacked tables.now p.now.cells p.now.side) }
 {
-    rules.check_counting && king_attacked_with(rules, tables, p, sets)
+    tables.rules().check_counting && king_attacked_with(tables, p, sets)
 }
 
 /// The same as `apply`, by the sets of the board. Answered are the sets of the position after the move, for the side
 /// that is then to move, and what the move may have written. Whether the move gives check is asked, of the tables, only
 /// where the variant counts checks.
 pub fn apply_on(
-    rules: &Rules,
     tables: &Tables,
     p: &mut Position,
     sets: &BoardSets,
     m: &Move,
 ) -> (BoardSets, Writes)
-    requires ready { IsReady rules.now tables.now p.old }
-    requires sets { AreSets rules.now p.old.side p.old.cells sets.now }
-    requires legal { Member m.now (legal rules.now (repeat_of p.old)) }
-    ensures next { p.new ≡ Next.next rules.now p.old m.now }
-    ensures sound { is_sound rules.now p.new ≡ true }
-    ensures sets { AreSets rules.now p.new.side p.new.cells result.0 }
+    requires sound { is_sound tables.now p.old ≡ true }
+    requires sets { AreSets tables.now p.old.side p.old.cells sets.now }
+    requires legal { Member m.now (legal tables.now (repeat_of p.old)) }
+    ensures next { p.new ≡ Next.next tables.now p.old m.now }
+    ensures sound { is_sound tables.now p.new ≡ true }
+    ensures sets { AreSets tables.now p.new.side p.new.cells result.0 }
     ensures touched { Covers result.1 p.old p.new }
 {
     sound_positions_take_moves();
     legal_moves_keep_soundness();
+    let rules = tables.rules();
     let side = p.side;
     let touched = make_but_checks(rules, p, m);
     let sets = sets.after(rules, side, &p.cells, touched.squares).turned();
-    let gives = is_check_counted(rules, tables, p, &sets);
+    let gives = is_check_counted(tables, p, &sets);
     count_check(p, side, gives);
     (sets, touched)
 }
 
 /// The same as `apply`, by the sets of the board. Answered are the sets of the position after the move, for the side
 /// that is then to move.
-pub fn apply_with(
-    rules: &Rules,
-    tables: &Tables,
-    p: &mut Position,
-    sets: &BoardSets,
-    m: &Move,
-) -> BoardSets
-    requires ready { IsReady rules.now tables.now p.old }
-    requires sets { AreSets rules.now p.old.side p.old.cells sets.now }
-    requires legal { Member m.now (legal rules.now (repeat_of p.old)) }
-    ensures next { p.new ≡ Next.next rules.now p.old m.now }
-    ensures sound { is_sound rules.now p.new ≡ true }
-    ensures sets { AreSets rules.now p.new.side p.new.cells result }
+pub fn apply_with(tables: &Tables, p: &mut Position, sets: &BoardSets, m: &Move) -> BoardSets
+    requires sound { is_sound tables.now p.old ≡ true }
+    requires sets { AreSets tables.now p.old.side p.old.cells sets.now }
+    requires legal { Member m.now (legal tables.now (repeat_of p.old)) }
+    ensures next { p.new ≡ Next.next tables.now p.old m.now }
+    ensures sound { is_sound tables.now p.new ≡ true }
+    ensures sets { AreSets tables.now p.new.side p.new.cells result }
 {
-    apply_on(rules, tables, p, sets, m).0
+    apply_on(tables, p, sets, m).0
 }

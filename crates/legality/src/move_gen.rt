@@ -1,7 +1,8 @@
 //! A position with what is known of it for all that is asked of its moves.
-ghost use Rattle.std.specs.Prelude.{◌≡◌};
+ghost use Rattle.std.specs.Prelude.{◌≡◌, true};
 ghost use Rattle.rules_model.specs.Ends as Ends;
 ghost use Rattle.rules_model.specs.Ready.{IsReady};
+ghost use Rattle.rules_model.specs.Sound.{is_sound};
 ghost use Rattle.board_sets.specs.Sets.{AreSets};
 ghost use Rattle.legality.specs.Stance.{repeat_in};
 
@@ -9,7 +10,7 @@ use crate::early_end::{early_end_with, is_ongoing};
 use crate::pin_info::PinInfo;
 use attack_tables::Tables;
 use board_sets::BoardSets;
-use rules_model::{Outcome, Position, Rules};
+use rules_model::{Outcome, Position};
 use std::marker::Model;
 
 /// A position with what is known of it for all that is asked of its moves: how it is ended before they are looked at,
@@ -33,14 +34,14 @@ impl<'a> Model for MoveGen<'a> {
 
 impl<'a> MoveGen<'a> {
     /// What is known of the position, by the sets of its board.
-    pub fn of(rules: &Rules, tables: &'a Tables, p: &'a Position, sets: &BoardSets) -> MoveGen<'a>
-        requires ready { IsReady rules.now tables.now p.now }
-        requires sets { AreSets rules.now p.now.side p.now.cells sets.now }
-        ensures { result ≡ record { rules = rules.now; position = p.now } }
+    pub fn of(tables: &'a Tables, p: &'a Position, sets: &BoardSets) -> MoveGen<'a>
+        requires sound { is_sound tables.now p.now ≡ true }
+        requires sets { AreSets tables.now p.now.side p.now.cells sets.now }
+        ensures { result ≡ record { rules = tables.now; position = p.now } }
     {
         MoveGen {
-            early: early_end_with(rules, tables, p, sets),
-            pin_info: PinInfo::of_all(rules, tables, p, sets),
+            early: early_end_with(tables, p, sets),
+            pin_info: PinInfo::of_all(tables, p, sets),
         }
     }
 
@@ -48,7 +49,7 @@ impl<'a> MoveGen<'a> {
     pub(crate) fn prove_ready(&self)
         ensures { IsReady self.now.rules self.now.rules self.now.position }
     {
-        let _early = self.early;
+        let _rules = self.pin_info.tables.rules();
     }
 
     /// The end before its moves are looked at: flag, checks or extinction; `Outcome::Ongoing` where there is none.

@@ -26,7 +26,7 @@ use next_position::{OnePut, move_pieces, one_put, touched};
 use rules_model::kinds::names;
 use rules_model::passing::{is_ep, is_stays};
 use rules_model::sizes::prove_position_sizes;
-use rules_model::{Cell, Cells, Kind, Move, Position, Rules, Side, Square};
+use rules_model::{Cell, Cells, Kind, Move, Position, Side, Square};
 use square_set::{EMPTY, Set, Shift};
 
 /// A position, with what tells of its candidates whether they are sane.
@@ -77,20 +77,14 @@ fn is_man(side: Side, cell: Option<Cell>) -> bool
 
 impl<'a> PinInfo<'a> {
     /// For all the moves of the position.
-    pub fn of_all(
-        rules: &Rules,
-        tables: &'a Tables,
-        p: &'a Position,
-        sets: &BoardSets,
-    ) -> PinInfo<'a>
-        requires tables { tables.now ≡ rules.now }
-        requires sets { AreSets rules.now p.now.side p.now.cells sets.now }
-        ensures tables { result.tables.now ≡ rules.now }
+    pub fn of_all(tables: &'a Tables, p: &'a Position, sets: &BoardSets) -> PinInfo<'a>
+        requires { AreSets tables.now p.now.side p.now.cells sets.now }
+        ensures tables { result.tables.now ≡ tables.now }
         ensures p { result.p.now ≡ p.now }
     {
-        let free = free_squares(rules, tables, p, sets);
+        let free = free_squares(tables, p, sets);
         let barred = barred_at_once(p, sets.own);
-        let at_once = free_at_once(rules, p, sets, barred, free);
+        let at_once = free_at_once(tables.rules(), p, sets, barred, free);
         let non_evading = non_evading_unless_free(tables, p, sets, barred, free);
         PinInfo {
             tables,
@@ -104,15 +98,9 @@ impl<'a> PinInfo<'a> {
     }
 
     /// For a few moves: no square is taken to be free, or not to evade.
-    pub fn of_few(
-        rules: &Rules,
-        tables: &'a Tables,
-        p: &'a Position,
-        sets: &BoardSets,
-    ) -> PinInfo<'a>
-        requires tables { tables.now ≡ rules.now }
-        requires sets { AreSets rules.now p.now.side p.now.cells sets.now }
-        ensures tables { result.tables.now ≡ rules.now }
+    pub fn of_few(tables: &'a Tables, p: &'a Position, sets: &BoardSets) -> PinInfo<'a>
+        requires { AreSets tables.now p.now.side p.now.cells sets.now }
+        ensures tables { result.tables.now ≡ tables.now }
         ensures p { result.p.now ≡ p.now }
     {
         PinInfo {

@@ -50,19 +50,13 @@ pub(crate) const NONE_NON_EVADING: NonEvadingSquares = NonEvadingSquares {
 };
 
 /// The squares that are free for the side to move.
-pub(crate) fn free_squares(
-    rules: &Rules,
-    tables: &Tables,
-    p: &Position,
-    sets: &BoardSets,
-) -> UnpinnedSquares
-    requires tables { tables.now ≡ rules.now }
-    requires sets { AreSets rules.now p.now.side p.now.cells sets.now }
-    ensures safe { GoFreely rules.now (repeat_of p.now) sets.now.own result.to_leave }
+pub(crate) fn free_squares(tables: &Tables, p: &Position, sets: &BoardSets) -> UnpinnedSquares
+    requires { AreSets tables.now p.now.side p.now.cells sets.now }
+    ensures safe { GoFreely tables.now (repeat_of p.now) sets.now.own result.to_leave }
     ensures own { AreOwn (repeat_of p.now) result.to_leave }
-    ensures no_king { HoldNoKing rules.now (repeat_of p.now) result.to_leave }
-    ensures drops { DropFreely rules.now (repeat_of p.now) result.to_enter }
-    ensures gates { GateFreely rules.now (repeat_of p.now) sets.now.own sets.now.kings result.to_enter }
+    ensures no_king { HoldNoKing tables.now (repeat_of p.now) result.to_leave }
+    ensures drops { DropFreely tables.now (repeat_of p.now) result.to_enter }
+    ensures gates { GateFreely tables.now (repeat_of p.now) sets.now.own sets.now.kings result.to_enter }
 {
     prove_position_sizes(p);
     sets_are_on_board();

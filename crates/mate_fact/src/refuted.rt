@@ -53,7 +53,7 @@ pub fn refuted_now(frame: &Frame, tables: &Tables, p: &Position) -> Option<Fact>
     ensures ongoing { result ≡ None → In.IsAttackIn frame.now p.now → ⊥ }
     ensures truth { IfSome result (IsTrueIn frame.now) }
 {
-    let own = own_end(&frame.rules, tables, p);
+    let own = own_end(tables, p);
     refuted_where(frame, p, end_of(frame, p, own))
 }
 

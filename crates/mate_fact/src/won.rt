@@ -56,7 +56,7 @@ pub fn won_now(frame: &Frame, tables: &Tables, p: &Position) -> Option<Fact>
     ensures none { result ≡ None → In.end_in frame.now p.now ≡ Some true → ⊥ }
     ensures truth { IfSome result (IsTrueIn frame.now) }
 {
-    let own = own_end(&frame.rules, tables, p);
+    let own = own_end(tables, p);
     won_where(frame, p, end_of(frame, p, own))
 }
 

@@ -1,7 +1,6 @@
 -- Workers that race beside each other: their passes, their lines, and their root.
-use Rattle.std.proofs.Common.{◌≡◌, ℕ, zero, suc, ◌+◌, ◌-◌, ◌<◌, ◌≤◌, List, [], ◌∷◌, ◌++◌, length, Bool, Ok, Err, OnOk, Option, Some, None, slice_get, take, refl, ap, sym, ◌∙◌, subst, arith}
+use Rattle.std.proofs.Common.{◌≡◌, ℕ, zero, suc, ◌+◌, ◌-◌, ◌<◌, ◌≤◌, List, [], ◌∷◌, ◌++◌, length, Bool, Option, Some, None, slice_get, take, refl, ap, sym, ◌∙◌, subst, arith}
 use Rattle.std.specs.List.{All, sum_by}
-use Rattle.std.specs.declared.result.Result.{Result}
 use Rattle.std.proofs.lemmas.Option.{slice_get_within}
 use Rattle.forced_wins.proofs.Rules.{laws}
 use Rattle.foundation.specs.Member.{Lists, Member}
@@ -19,7 +18,6 @@ use Rattle.mate_shards.specs.Grown.{HaveGrown, HaveParts}
 use Rattle.mate_shards.specs.Views.{ArePassesOf, ShardPass, ShardsView}
 use Rattle.rules_model.specs.declared.board.Position.{Position}
 use Rattle.rules_model.specs.Sides.{same_side}
-use Rattle.watching.specs.declared.halt.Halt.{Halt}
 use Rattle.mate_search.specs.Handed.{AreHandedBack}
 use Rattle.mate_search.specs.Races.{IsReady, IsTaskOf, root_lines, root_of}
 use Rattle.mate_search.specs.declared.race.Race.{Race}
@@ -92,10 +90,3 @@ module _ {G : Type 0} (race : Race G) (ready : IsReady race) where
         let at : lines_within (seen_in h) race.n p ≡ lines_within (seen_in h) race.n (story race.game.now).last = ap (lines_within (seen_in h) race.n) last in
         let same : lines_of_moves f task.left p ≡ lines_of_moves h task.left p = ap (λ (x : Frame). lines_of_moves x task.left p) kept in
         omega (arith, within, at, same)
-
--- ---- answers
-
--- what holds with each answer
-pub either-way : {T P : Type 0} (r : Result T Halt) → OnOk r P → ((why : Halt) → r ≡ Err why → P) → P
-either-way (Ok x) p q = p
-either-way (Err why) p q = q why refl

@@ -10,7 +10,6 @@ pub mod laws;
 mod lending;
 mod ordering;
 mod race;
-mod race_watch;
 mod racing;
 mod shared;
 mod shared_root;

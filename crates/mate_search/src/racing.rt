@@ -11,12 +11,11 @@ ghost use Rattle.mate_search.specs.Races.{IsLent, IsReady, race_lines};
 
 use crate::job::{WorkerPasses, help, take_all};
 use crate::race::Race;
-use crate::race_watch::RaceWatch;
 use io_ports::Gate;
 use mate_settle::FactTable;
 use std::sync::Wait;
 use std::thread::Threads;
-use watching::{Halt, Watch};
+use watching::{Halt, Watch, WorkWatch};
 
 /// The worker in the caller. When it ends, whatever the reason, the others are told to stop. That it was told so itself
 /// is no error.
@@ -35,9 +34,9 @@ fn lead<R: Wait, W: Watch, G: Gate>(
     ensures gone { OnOk result (W.gone watch.old watch.new (race_lines race.now)) }
     ensures ended { (why : Halt) → IsErrOf result why → W.ended watch.old watch.new (race_lines race.now) why }
 {
-    let mut racer = RaceWatch {
+    let mut racer = WorkWatch {
         watch,
-        over: &race.shared.over,
+        work: &race.shared.over,
         told: false,
     };
     let end = take_all(rt, race, job, facts, &mut racer);

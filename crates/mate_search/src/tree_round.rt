@@ -131,6 +131,7 @@ pub(crate) fn grow_tree<R: Wait, W: Watch>(
     let last = watch.nodes().saturating_add(most);
     let mut room = ROOM;
     let mut roots = leaves_of(alloc, board, n, facts)?;
+    // One step enters many nodes, another none, where it only takes a child out: so steps and nodes are both bounded.
     for _step in 0..most {
         if roots.is_empty() || room == 0 || last <= watch.nodes() {
             return Ok(None);

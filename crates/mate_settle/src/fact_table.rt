@@ -41,11 +41,12 @@ pub struct FactTable<'f> {
     killers: [Option<Move>; KILLERS],
     /// The replies that refuted the attacker's last move, the newest first.
     refuters: [Option<Move>; REFUTERS],
-    /// For each square the legal reply that met a check last which was given by a move to it, and the one before.
+    /// For each square the legal reply that met a check last which was given by a move to it.
     meeters: [Option<Move>; SQUARES],
+    /// For each square the one that did so before it.
     elder_meeters: [Option<Move>; SQUARES],
-    /// How often replies refuted, by the attacker's moves, the kind and the target: as many counters as there is room for
-    /// facts, and no more than `COUNTERS`.
+    /// How often replies refuted, by the attacker's moves, the kind and the target: as many counters as there is room
+    /// for facts, and no more than `COUNTERS`.
     counters: Vec<u8>,
 }
 
@@ -292,8 +293,8 @@ impl<'f> FactTable<'f> {
         }
     }
 
-    /// How often a reply by which a piece of the kind came to the square refuted, where the attacker had this many moves
-    /// left: roughly, since counters are halved and shared.
+    /// How often a reply by which a piece of the kind came to the square refuted, where the attacker had this many
+    /// moves left: roughly, since counters are halved and shared.
     pub(crate) fn refuted(&self, moves: u16, kind: Kind, to: Square) -> u8 {
         if self.counters.is_empty() {
             return 0;

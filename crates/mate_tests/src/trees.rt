@@ -141,7 +141,8 @@ fn trees_grow_as_defined(rt: HostRuntime) {
     grows(&rt, alloc, &problem, 2);
 }
 
-/// Whether White's win within 2 moves is found, and whether a look then finds that the position after it is won within 1.
+/// Whether White's win within 2 moves is found, and whether a look then finds that the position after it is won within
+/// 1.
 fn found_and_known<R: Abort + Wait>(
     rt: &R,
     alloc: Global,

@@ -24,9 +24,12 @@ is_opened v = (out-Node v).opened
 abbrev pub children_at : Node → List Node
 children_at v = (out-Node v).children.items
 
-pub record IsLeafOf (m : Move) (v : Node) : Type 0 where
+-- it is not opened, and has this move and these numbers
+pub record IsLeafOf (m : Move) (to_prove to_disprove : ℕ) (v : Node) : Type 0 where
   pub chosen : chosen_at v ≡ m
   pub closed : is_opened v ≡ false
+  pub proof : (out-Node v).proof ≡ to_prove
+  pub disproof : (out-Node v).disproof ≡ to_disprove
 
 -- it has become an opened node with these children, and has their numbers
 pub record IsOpenedWith (attacking : Bool) (old : Node) (vs : List Node) (new : Node) : Type 0 where

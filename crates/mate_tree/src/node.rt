@@ -21,9 +21,9 @@ pub struct Node {
     pub children: Vec<Node>,
 }
 
-/// A node that is not opened.
+/// A node that is not opened, with these numbers.
 pub(crate) fn leaf(alloc: Global, chosen: Move, proof: u32, disproof: u32) -> Node
-    ensures { Shapes.IsLeafOf chosen result }
+    ensures { Shapes.IsLeafOf chosen proof disproof result }
 {
     Node {
         chosen,

@@ -1,5 +1,5 @@
 //! Proof and disproof numbers.
-ghost use Rattle.std.specs.Prelude.{◌≡◌, ◌≤◌, length, not};
+ghost use Rattle.std.specs.Prelude.{◌≡◌, ◌<◌, length, not};
 ghost use Rattle.mate_tree.specs.Numbers as Numbers;
 
 use crate::node::Node;
@@ -26,7 +26,7 @@ fn own_number(attacking: bool, node: &Node) -> u32
 
 /// The first child whose own number is the least, with what the children's numbers come to.
 pub(crate) fn best_child(attacking: bool, children: &[Node]) -> BestChild
-    ensures place { result.place ≤ length children.now }
+    ensures place { 0 < length children.now → result.place < length children.now }
     ensures own { result.own ≡ Numbers.least_of attacking children.now }
     ensures others { result.others ≡ Numbers.sum_of (not attacking) children.now }
 {

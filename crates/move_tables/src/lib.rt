@@ -19,5 +19,5 @@ pub use line::{Line, Passage};
 pub use mode::Mode;
 pub use region::region_set;
 pub use spot::Spot;
-pub use squares::{kings, men, occupied};
+pub use squares::{men, occupied};
 pub use tables::MoveTables;

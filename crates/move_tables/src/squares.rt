@@ -1,12 +1,11 @@
 //! The squares of a board's pieces, as sets.
 ghost use Rattle.std.specs.Prelude.{◌≡◌, ◌<◌, true, is_some};
-ghost use Rattle.rules_model.specs.Attacks.{is_own, is_own_king};
+ghost use Rattle.rules_model.specs.Attacks.{is_own};
 ghost use Rattle.rules_model.specs.Squares.{cell_at};
-ghost use Rattle.move_tables.specs.Occupied.{IsOccupied, AreMen, AreKings};
+ghost use Rattle.move_tables.specs.Occupied.{IsOccupied, AreMen};
 
-use rules_model::kinds::names;
 use rules_model::sizes::prove_board_size;
-use rules_model::{Cell, Rules, Side};
+use rules_model::{Cell, Side};
 use square_set::{EMPTY, Set};
 
 fn is_piece(cells: &[Option<Cell>; 120], at: u8) -> bool
@@ -26,16 +25,6 @@ fn is_man(cells: &[Option<Cell>; 120], side: Side, at: u8) -> bool
     match cells[at as usize] {
         None => false,
         Some(cell) => cell.side.is(side),
-    }
-}
-
-fn is_king(rules: &Rules, cells: &[Option<Cell>; 120], side: Side, at: u8) -> bool
-    requires { at < 120 }
-    ensures { result ≡ is_own_king rules.now side (cell_at cells.now at) }
-{
-    match cells[at as usize] {
-        None => false,
-        Some(cell) => cell.side.is(side) && names(rules.king, cell.kind),
     }
 }
 
@@ -61,20 +50,6 @@ pub fn men(cells: &[Option<Cell>; 120], side: Side) -> Set
     let mut set = EMPTY;
     for at in 0..120u8 {
         if is_man(cells, side, at) {
-            set = set.with(at);
-        }
-    }
-    set
-}
-
-/// The squares with a king of the side.
-pub fn kings(rules: &Rules, cells: &[Option<Cell>; 120], side: Side) -> Set
-    ensures { AreKings rules.now side cells.now result }
-{
-    prove_board_size(cells);
-    let mut set = EMPTY;
-    for at in 0..120u8 {
-        if is_king(rules, cells, side, at) {
             set = set.with(at);
         }
     }

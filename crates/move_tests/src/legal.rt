@@ -89,7 +89,7 @@ fn count_legal(rules: &Rules, tables: &Tables, p: &Position) -> u128
     requires ready { IsReady rules.now tables.now p.now }
 {
     let sets = sets_of(rules, &p.cells, p.side);
-    MoveGen::of(rules, tables, p, &sets).count_legal()
+    MoveGen::of(tables, p, &sets).count_legal()
 }
 
 /// Whether these are the legal moves by each of the calls that answer no list.
@@ -396,7 +396,7 @@ fn ends_with(rt: &impl Abort, alloc: Global, rules: &Rules, row: &(&str, Outcome
     let mut p = position(pieces);
     p.side = Side::Black;
     assert!(rt; sound(rules, &p));
-    expect_eq_at(rt, pieces, own_end(rules, &tables, &p), end);
+    expect_eq_at(rt, pieces, own_end(&tables, &p), end);
     let has_moves = any_legal(rules, &tables, &p);
     expect_eq_at(rt, pieces, has_moves, end == Outcome::Ongoing);
 }
@@ -468,7 +468,7 @@ fn leaves_checks(rt: &impl Abort, alloc: Global, rules: &Rules, to: &str, left: 
     assert!(rt; sound(rules, &p));
     assert!(rt; is_legal(rules, &tables, &p, &m), "{to}");
     let sets = sets_of(rules, &p.cells, p.side);
-    let after = apply_with(rules, &tables, &mut p, &sets, &m);
+    let after = apply_with(&tables, &mut p, &sets, &m);
     expect_eq_at(rt, to, p.checks, [left, 3]);
     expect_eq_at(rt, to, after, sets_of(rules, &p.cells, p.side));
 }

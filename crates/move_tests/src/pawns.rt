@@ -46,7 +46,7 @@ fn moves_of(alloc: Global, rules: &Rules, p: &Position) -> Result<MoveList, Memo
     };
     let tables = Tables::new(alloc, rules)?;
     let sets = sets_of(rules, &p.cells, p.side);
-    push_pawn_moves(rules, &tables, p, &sets, &mut found)?;
+    push_pawn_moves(&tables, p, &sets, &mut found)?;
     Ok(found)
 }
 

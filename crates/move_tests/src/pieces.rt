@@ -81,7 +81,7 @@ fn moves_of_one_square_place_the_gate(rt: HostRuntime) {
     };
     let sets = sets_of(&rules, &p.cells, p.side);
     for from in ["b1", "b2", "a6", "h4"] {
-        if let Some(mover) = mover_on(&rules, &tables, &p, &sets, square(from)) {
+        if let Some(mover) = mover_on(&tables, &p, &sets, square(from)) {
             push_mover(&rules, &p, mover, hawk, &mut found).expect(&rt, "no fault");
         }
     }

@@ -5,7 +5,8 @@ ghost use Rattle.square_set.specs.Members.{OnSquares};
 
 use crate::expect::expect_of;
 use crate::helpers::halves;
-use attack_tables::{Tables, kings, men, occupied};
+use attack_tables::{Tables, men, occupied};
+use board_sets::sets_of;
 use pins::danger::danger;
 use pins::evasion::{EvasionSquares, evasions};
 use pins::free;
@@ -19,7 +20,7 @@ use std::process::Abort;
 fn free_men(tables: &Tables, p: &Position) -> Set {
     let _first = p.cells[0];
     let side = Side::White;
-    let kings = kings(tables.rules(), &p.cells, side);
+    let kings = sets_of(tables.rules(), &p.cells, side).kings;
     let enemies = men(&p.cells, side.other());
     let occupied = occupied(&p.cells);
     let free = free(tables, &p.cells, kings, enemies, occupied, side);
@@ -199,7 +200,7 @@ fn kings_are_no_screens(rt: HostRuntime) {
 fn evasions_of(tables: &Tables, p: &Position) -> EvasionSquares {
     let _first = p.cells[0];
     let side = Side::White;
-    let kings = kings(tables.rules(), &p.cells, side);
+    let kings = sets_of(tables.rules(), &p.cells, side).kings;
     let enemies = men(&p.cells, side.other());
     let occupied = occupied(&p.cells);
     evasions(tables, &p.cells, kings, enemies, occupied, side)

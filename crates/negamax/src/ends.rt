@@ -65,8 +65,8 @@ pub(crate) fn stand_pat(line: &Line, tally: Tally) -> i32
     tally.value(line.board().position().side)
 }
 
-/// What the last position is worth to the side to move without a look at captures: by its end, at a number of plies from
-/// the root, or at a glance, which is given.
+/// What the last position is worth to the side to move without a look at captures: by its end, at a number of plies
+/// from the root, or at a glance, which is given.
 pub(crate) fn resting(line: &Line, ply: u8, glance: i32) -> i32
     requires glance { glance ≡ (Values.play line.now.rules).eval (story_of_line line.now) }
     ensures is { result ≡ Values.quiet (Values.play line.now.rules) 0 ply (story_of_line line.now) }

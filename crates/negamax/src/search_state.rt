@@ -20,8 +20,8 @@ use rules_model::{Move, MoveList, Position};
 use std::alloc::{AllocError, Global};
 use watching::Halt;
 
-/// What a worker keeps from one search to the next: the moves that wait to be searched, and what orders them. Any two of
-/// them lead to the same values.
+/// What a worker keeps from one search to the next: the moves that wait to be searched, and what orders them. Any two
+/// of them lead to the same values.
 #[derive(Drop)]
 pub struct SearchState<'h> {
     hints: &'h HintTable,

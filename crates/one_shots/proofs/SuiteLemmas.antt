@@ -8,7 +8,7 @@ use Rattle.suite.specs.ReadView.{NoSuite}
 use Rattle.game_text.specs.declared.unmade.Unmade.TheVariants.{Faulty, Unread, Memory}
 use Rattle.suite.specs.declared.fault.SuiteFault.{SuiteFault}
 use Rattle.suite.specs.Fault.{fault_text}
-use Rattle.suite.specs.ReadView as read
+use Rattle.game_text.specs.ReadView as read
 use Rattle.suite.specs.Report.{suite_report}
 use Rattle.suite.specs.Suite.{lines_of_suite}
 use Rattle.one_shot_checks.specs.Fault.{error_line}

@@ -1,5 +1,6 @@
 //! What `generate` prints: a game of random moves.
 ghost use Rattle.std.specs.Prelude.{◌≤◌};
+ghost use Rattle.game_play.specs.declared.game.TheConstants.{MOST_PLIES};
 ghost use Rattle.session_model.specs.Generate.{SaysGenerate, SaysGenerated};
 ghost use Rattle.variant_rules.specs.Playable.{IsPlayable};
 ghost use Rattle.variant_rules.specs.View.{IfRules, found_view};
@@ -24,7 +25,7 @@ fn generate_in<R: Threads + Sync>(
     plies: u16,
 ) -> Result<Text, NoAnswer<'static>>
     requires playable { IfRules found IsPlayable }
-    requires plies { plies ≤ 8192 }
+    requires plies { plies ≤ MOST_PLIES }
     ensures answers { Answers result (SaysGenerated name.now number plies (found_view found.entry)) }
     ensures reads_nothing { ¬ (IsUnheard result) }
 {
@@ -47,7 +48,7 @@ pub fn generate<R: Threads + Sync>(
     number: u64,
     plies: u16,
 ) -> Result<Text, NoAnswer<'static>>
-    requires plies { plies ≤ 8192 }
+    requires plies { plies ≤ MOST_PLIES }
     ensures answers { Answers result (SaysGenerate sections.now name.now number plies) }
     ensures reads_nothing { ¬ (IsUnheard result) }
 {

@@ -4,6 +4,7 @@ ghost use Rattle.rules_model.specs.Fit.{IsFit};
 ghost use Rattle.rules_model.specs.Sound.{is_sound};
 ghost use Rattle.session_model.specs.Generate as Generate;
 ghost use Rattle.game_play.specs.Played.{story};
+ghost use Rattle.game_play.specs.declared.game.TheConstants.{MOST_PLIES};
 ghost use Rattle.rules_model.specs.Games.{result as result_of};
 ghost use Rattle.one_shots.specs.Steps.{IsPicked, PlaysOne};
 
@@ -29,7 +30,7 @@ fn picked(moves: &[Move], generator: &mut Pcg32) -> Option<Move>
 
 // Plays the move that the next word of the generator picks. Says whether one was played.
 fn play_picked(alloc: Global, game: &mut Game, generator: &mut Pcg32) -> Result<bool, Memory>
-    requires room { length game.old.moves < 8192 }
+    requires room { length game.old.moves < MOST_PLIES }
     requires ongoing { result_of game.old.rules (story game.old) ≡ Outcome.Ongoing }
     ensures plays { IfOk result (PlaysOne generator.old generator.new game.old game.new) }
     ensures longer { OnOk result (length game.new.moves ≤ length game.old.moves + 1) }
@@ -48,7 +49,7 @@ fn play_picked(alloc: Global, game: &mut Game, generator: &mut Pcg32) -> Result<
 
 // Plays one move more, where the game is ongoing. Says whether it was.
 fn play_one(alloc: Global, game: &mut Game, generator: &mut Pcg32) -> Result<bool, Memory>
-    requires room { length game.old.moves < 8192 }
+    requires room { length game.old.moves < MOST_PLIES }
     ensures plays { IfOk result (PlaysOne generator.old generator.new game.old game.new) }
     ensures longer { OnOk result (length game.new.moves ≤ length game.old.moves + 1) }
 {
@@ -60,7 +61,7 @@ fn play_one(alloc: Global, game: &mut Game, generator: &mut Pcg32) -> Result<boo
 
 // Plays up to this many more moves, while the game is ongoing.
 fn play_on(alloc: Global, game: &mut Game, generator: &mut Pcg32, plies: u16) -> Result<(), Memory>
-    requires room { length game.old.moves + plies ≤ 8192 }
+    requires room { length game.old.moves + plies ≤ MOST_PLIES }
     ensures { OnOk result (game.new ≡ Generate.random_game plies generator.old game.old) }
 {
     for ply in 0..plies {
@@ -76,7 +77,7 @@ fn play_on(alloc: Global, game: &mut Game, generator: &mut Pcg32, plies: u16) ->
 pub fn random_game(alloc: Global, rules: &Rules, number: u64, plies: u16) -> Result<Game, Memory>
     requires fit { IsFit rules.now }
     requires start { is_sound rules.now rules.now.start ≡ true }
-    requires plies { plies ≤ 8192 }
+    requires plies { plies ≤ MOST_PLIES }
     ensures { IfOk result (λ game. game ≡ Generate.generated rules.now number plies) }
 {
     let mut game = Game::new(alloc, rules, &rules.start)?;

@@ -26,7 +26,7 @@ use Rattle.piece_moves.specs.InTurn.{At, start_of, target_of}
 use Rattle.piece_moves.specs.Taking.{IsChosen, IsSink, TakesAll, TakesSome}
 use Rattle.piece_moves.proofs.TakingLemmas.{all-none, all-join, all-same, some-behind, some-within}
 use Rattle.piece_moves.specs.Goals.{own_piece, makes}
-use Rattle.piece_moves.specs.Parts.{IsMoveFrom, FitPieceMoves}
+use Rattle.piece_moves.specs.Parts.{IsMoveFrom, FitMovesFrom, FitPieceMoves}
 use Rattle.piece_moves.proofs.GoalLemmas.{own_makes}
 
 same_square : (a b : Square) → a.0 ≡ b.0 → a ≡ b
@@ -187,8 +187,24 @@ module _ (rules : Rules) (r : Repeat) where
     there_fit (Castle f t rook g) h = let e = h.0.1 in cc
     there_fit (Drop kind t) h = let e = h.0.1 in cc
 
-    pub fit-at : {S : Type 0} (takes : S → List Move → S → Type 0) (s t : S) → TakesAll takes (IsMoveFrom rules r from None) s t → TakesAll takes (At (FitPieceMoves rules r) start_of from.0) s t
-    fit-at takes s t a = all-same takes (IsMoveFrom rules r from None) (At (FitPieceMoves rules r) start_of from.0) s t a fit_there there_fit
+    -- those from the square are those of a set that has it
+    module _ (set : Set) (member : has set from.0 ≡ true) where
+      set_there : (m : Move) → IsMoveFrom rules r from None m → At (FitMovesFrom rules r set) start_of from.0 m
+      set_there m h = let k = fit_there m h in ((k.0, ap (has set) k.1 ∙ member), k.1)
 
-    pub fit-some : {S : Type 0} (stops : S → List Move → S → Type 0) (s t : S) → TakesSome stops (IsMoveFrom rules r from None) s t → TakesSome stops (At (FitPieceMoves rules r) start_of from.0) s t
-    fit-some stops s t a = some-within stops (IsMoveFrom rules r from None) (At (FitPieceMoves rules r) start_of from.0) s t a fit_there
+      there_set : (m : Move) → At (FitMovesFrom rules r set) start_of from.0 m → IsMoveFrom rules r from None m
+      there_set m h = there_fit m (h.0.0, h.1)
+
+      pub set-at : {S : Type 0} (takes : S → List Move → S → Type 0) (s t : S) → TakesAll takes (IsMoveFrom rules r from None) s t → TakesAll takes (At (FitMovesFrom rules r set) start_of from.0) s t
+      set-at takes s t a = all-same takes (IsMoveFrom rules r from None) (At (FitMovesFrom rules r set) start_of from.0) s t a set_there there_set
+
+      pub set-some : {S : Type 0} (stops : S → List Move → S → Type 0) (s t : S) → TakesSome stops (IsMoveFrom rules r from None) s t → TakesSome stops (At (FitMovesFrom rules r set) start_of from.0) s t
+      set-some stops s t a = some-within stops (IsMoveFrom rules r from None) (At (FitMovesFrom rules r set) start_of from.0) s t a set_there
+
+  -- ---- those from the squares of a set
+
+  pub whole-all : (pieces : Set) → AreOwnPieces rules r.side r.cells pieces → {S : Type 0} (takes : S → List Move → S → Type 0) (s t : S) → TakesAll takes (FitMovesFrom rules r pieces) s t → TakesAll takes (FitPieceMoves rules r) s t
+  whole-all pieces are takes s t a = all-same takes (FitMovesFrom rules r pieces) (FitPieceMoves rules r) s t a (λ m h. h.0) (λ m h. (h, from_piece pieces are m h))
+
+  pub whole-some : (set : Set) {S : Type 0} (stops : S → List Move → S → Type 0) (s t : S) → TakesSome stops (FitMovesFrom rules r set) s t → TakesSome stops (FitPieceMoves rules r) s t
+  whole-some set stops s t a = some-within stops (FitMovesFrom rules r set) (FitPieceMoves rules r) s t a (λ m h. h.0)

@@ -18,7 +18,6 @@ use rules_model::{Cell, Move, Position, Promo, Rules, Square};
 /// Whether the own piece on `from` makes the move.
 #[tactic(auto, unfolding(rules_model::specs::Pieces::piece_moves))]
 fn makes(
-    rules: &Rules,
     tables: &Tables,
     p: &Position,
     sets: &BoardSets,
@@ -27,19 +26,17 @@ fn makes(
     to: Square,
     promo: Promo,
 ) -> bool
-    requires fit { IsFit rules.now }
-    requires tables { tables.now ≡ rules.now }
-    requires sets { AreSets rules.now p.now.side p.now.cells sets.now }
-    requires own { Goals.own_piece rules.now p.now.side (cell_at p.now.cells from.0) ≡ Some piece }
-    ensures { result ≡ piece_moves rules.now (repeat_of p.now) piece from to promo }
+    requires sets { AreSets tables.now p.now.side p.now.cells sets.now }
+    requires own { Goals.own_piece tables.now p.now.side (cell_at p.now.cells from.0) ≡ Some piece }
+    ensures { result ≡ piece_moves tables.now (repeat_of p.now) piece from to promo }
 {
+    let rules = tables.rules();
     goes(tables, p, sets, piece, from, to)
         && becomes(rules, may_plus(rules, p.side, piece.kind, from, to), promo)
         && !means_castling(rules, p, piece.kind, from, to)
 }
 
 fn moves(
-    rules: &Rules,
     tables: &Tables,
     p: &Position,
     sets: &BoardSets,
@@ -47,14 +44,12 @@ fn moves(
     to: Square,
     promo: Promo,
 ) -> bool
-    requires fit { IsFit rules.now }
-    requires tables { tables.now ≡ rules.now }
-    requires sets { AreSets rules.now p.now.side p.now.cells sets.now }
-    ensures { result ≡ own_piece_moves rules.now (repeat_of p.now) from to promo (cell_at p.now.cells from.0) }
+    requires sets { AreSets tables.now p.now.side p.now.cells sets.now }
+    ensures { result ≡ own_piece_moves tables.now (repeat_of p.now) from to promo (cell_at p.now.cells from.0) }
 {
-    match own_piece(rules, p, from) {
+    match own_piece(tables.rules(), p, from) {
         None => false,
-        Some(piece) => makes(rules, tables, p, sets, piece, from, to, promo),
+        Some(piece) => makes(tables, p, sets, piece, from, to, promo),
     }
 }
 
@@ -80,7 +75,7 @@ pub fn is_candidate(
             to,
             promo,
             gate: None,
-        } => moves(rules, tables, p, sets, from, to, promo),
+        } => moves(tables, p, sets, from, to, promo),
         Move::Go { .. } | Move::Castle { .. } | Move::Drop { .. } => false,
     }
 }

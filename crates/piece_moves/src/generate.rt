@@ -11,7 +11,7 @@ ghost use Rattle.square_set.specs.Members.{has};
 ghost use Rattle.board_sets.specs.Sets.{AreSets};
 ghost use Rattle.piece_moves.specs.Goals.{own_piece};
 ghost use Rattle.piece_moves.specs.Movers.{IsMoveOf, IsMoveTo, IsMover};
-ghost use Rattle.piece_moves.specs.Parts.{FitPieceMoves, IsMoveFrom};
+ghost use Rattle.piece_moves.specs.Parts.{FitMovesFrom, FitPieceMoves, IsMoveFrom};
 ghost use Rattle.piece_moves.specs.Plain as Plain;
 
 use crate::piece::own_piece;
@@ -142,22 +142,14 @@ pub fn push_mover<S: MoveSink>(
 }
 
 /// The own piece on the square and where it goes; None where there is none, or it is the pawn.
-pub fn mover_on(
-    rules: &Rules,
-    tables: &Tables,
-    p: &Position,
-    sets: &BoardSets,
-    from: Square,
-) -> Option<Mover>
-    requires fit { IsFit rules.now }
-    requires tables { tables.now ≡ rules.now }
-    requires sets { AreSets rules.now p.now.side p.now.cells sets.now }
+pub fn mover_on(tables: &Tables, p: &Position, sets: &BoardSets, from: Square) -> Option<Mover>
+    requires sets { AreSets tables.now p.now.side p.now.cells sets.now }
     requires from { from.0 < 120 }
-    ensures mover { IfSome result (IsMover rules.now p.now) }
+    ensures mover { IfSome result (IsMover tables.now p.now) }
     ensures from { IfSome result (λ mover. mover.from ≡ from) }
-    ensures none { IfNone result (own_piece rules.now p.now.side (cell_at p.now.cells from.0) ≡ None) }
+    ensures none { IfNone result (own_piece tables.now p.now.side (cell_at p.now.cells from.0) ≡ None) }
 {
-    let piece = own_piece(rules, p, from)?;
+    let piece = own_piece(tables.rules(), p, from)?;
     let targets = targets(tables, p, sets, piece, from);
     Some(Mover {
         piece,
@@ -168,24 +160,22 @@ pub fn mover_on(
 
 /// The same, without a gate, for a square with an own piece that is not the pawn.
 fn push_own<S: MoveSink>(
-    rules: &Rules,
     tables: &Tables,
     p: &Position,
     sets: &BoardSets,
     from: Square,
     out: &mut S,
 ) -> Result<(), S::Full>
-    requires fit { IsFit rules.now }
-    requires tables { tables.now ≡ rules.now }
-    requires sets { AreSets rules.now p.now.side p.now.cells sets.now }
+    requires sets { AreSets tables.now p.now.side p.now.cells sets.now }
     requires from { from.0 < 120 }
-    requires own { is_own p.now.side (λ kind. not (is_pawn rules.now kind)) (cell_at p.now.cells from.0) ≡ true }
-    ensures ok { OnOk result (TakesAll S.takes (IsMoveFrom rules.now (repeat_of p.now) from None) out.old out.new) }
-    ensures err { OnErr result (TakesSome S.stops (IsMoveFrom rules.now (repeat_of p.now) from None) out.old out.new) }
+    requires own { is_own p.now.side (λ kind. not (is_pawn tables.now kind)) (cell_at p.now.cells from.0) ≡ true }
+    ensures ok { OnOk result (TakesAll S.takes (IsMoveFrom tables.now (repeat_of p.now) from None) out.old out.new) }
+    ensures err { OnErr result (TakesSome S.stops (IsMoveFrom tables.now (repeat_of p.now) from None) out.old out.new) }
 {
     match cell_on(&p.cells, from.0) {
         None => Ok(()),
         Some(piece) => {
+            let rules = tables.rules();
             let targets = targets(tables, p, sets, piece, from);
             let mover = Mover {
                 piece,
@@ -195,6 +185,28 @@ fn push_own<S: MoveSink>(
             push_mover(rules, p, mover, None, out)
         }
     }
+}
+
+/// Gives the ordinary moves of the own pieces on these squares that are not the pawn, without a gate, each once and in no
+/// special order. Where the sink is full, it was given some of them, each at most once.
+pub fn push_moves_from<S: MoveSink>(
+    tables: &Tables,
+    p: &Position,
+    sets: &BoardSets,
+    from: Set,
+    out: &mut S,
+) -> Result<(), S::Full>
+    requires sets { AreSets tables.now p.now.side p.now.cells sets.now }
+    ensures ok { OnOk result (TakesAll S.takes (FitMovesFrom tables.now (repeat_of p.now) from) out.old out.new) }
+    ensures err { OnErr result (TakesSome S.stops (FitMovesFrom tables.now (repeat_of p.now) from) out.old out.new) }
+{
+    prove_position_sizes(p);
+    sets_are_on_board();
+    let mut left = sets.own_pieces().and(from);
+    while let Some(at) = left.take_first() {
+        push_own(tables, p, sets, Square(at), out)?;
+    }
+    Ok(())
 }
 
 /// Gives the ordinary moves of the own pieces that are not the pawn, without a gate, each once and in no special order:
@@ -212,11 +224,5 @@ pub fn push_moves<S: MoveSink>(
     ensures ok { OnOk result (TakesAll S.takes (FitPieceMoves rules.now (repeat_of p.now)) out.old out.new) }
     ensures err { OnErr result (TakesSome S.stops (FitPieceMoves rules.now (repeat_of p.now)) out.old out.new) }
 {
-    prove_position_sizes(p);
-    sets_are_on_board();
-    let mut left = sets.own_pieces();
-    while let Some(from) = left.take_first() {
-        push_own(rules, tables, p, sets, Square(from), out)?;
-    }
-    Ok(())
+    push_moves_from(tables, p, sets, sets.own_pieces(), out)
 }

@@ -11,6 +11,6 @@ mod promotion;
 mod targets;
 
 pub use candidate::is_candidate;
-pub use generate::{Mover, mover_on, push_mover, push_moves};
+pub use generate::{Mover, mover_on, push_mover, push_moves, push_moves_from};
 pub use move_sink::{MoveSink, push_if};
 pub use promotion::holds_a_right;

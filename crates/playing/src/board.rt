@@ -57,9 +57,8 @@ impl<'t> Board<'t> {
         requires { Member m.now (Stance.legal_in self.now) }
         ensures { result ≡ Stance.after self.now m.now }
     {
-        let rules = self.tables.rules();
         let mut position = self.position;
-        let (sets, touched) = apply_on(rules, self.tables, &mut position, &self.sets, m);
+        let (sets, touched) = apply_on(self.tables, &mut position, &self.sets, m);
         let key = self.key.after(&self.position, &position, touched);
         Board {
             tables: self.tables,
@@ -81,7 +80,7 @@ impl<'t> Board<'t> {
     pub fn known(&self) -> MoveGen<'_>
         ensures { result ≡ self.now }
     {
-        MoveGen::of(self.tables.rules(), self.tables, &self.position, &self.sets)
+        MoveGen::of(self.tables, &self.position, &self.sets)
     }
 
     /// The rules that are played.

@@ -15,8 +15,7 @@ impl Board<'_> {
     pub fn in_check(&self) -> bool
         ensures { result ≡ Attacks.king_attacked self.now.rules self.now.position.cells self.now.position.side }
     {
-        let rules = self.tables.rules();
-        king_attacked_with(rules, self.tables, &self.position, &self.sets)
+        king_attacked_with(self.tables, &self.position, &self.sets)
     }
 
     /// Whether the legal move attacks the other side's king.
@@ -24,16 +23,14 @@ impl Board<'_> {
         requires { Member m.now (Stance.legal_in self.now) }
         ensures { result ≡ Legal.gives_check self.now.rules (Stance.repeat_in self.now) m.now }
     {
-        let rules = self.tables.rules();
-        gives_check_with(rules, self.tables, &self.position, &self.sets, m)
+        gives_check_with(self.tables, &self.position, &self.sets, m)
     }
 
     /// The end before its moves are looked at: flag, checks or extinction; `Outcome::Ongoing` where there is none.
     pub fn early_end(&self) -> Outcome
         ensures { result ≡ Ends.early_end self.now.rules (Stance.repeat_in self.now) }
     {
-        let rules = self.tables.rules();
-        early_end_with(rules, self.tables, &self.position, &self.sets)
+        early_end_with(self.tables, &self.position, &self.sets)
     }
 
     /// The end by itself: an early end, or that no move is legal; `Outcome::Ongoing` where there is none. No memory is
@@ -49,7 +46,6 @@ impl Board<'_> {
         requires { any ≡ not (Legal.is_stuck self.now.rules (Stance.repeat_in self.now)) }
         ensures { result ≡ Legal.own_end self.now.rules (Stance.repeat_in self.now) }
     {
-        let rules = self.tables.rules();
-        end_where(rules, self.tables, &self.position, &self.sets, any)
+        end_where(self.tables, &self.position, &self.sets, any)
     }
 }

@@ -21,8 +21,7 @@ impl Board<'_> {
         ensures is { result ≡ Allowed.is_legal self.now.rules (Stance.repeat_in self.now) m.now }
         ensures member { IsTrue result ↔ Member m.now (Stance.legal_in self.now) }
     {
-        let rules = self.tables.rules();
-        is_legal_with(rules, self.tables, &self.position, &self.sets, m)
+        is_legal_with(self.tables, &self.position, &self.sets, m)
     }
 
     /// Whether there is a legal move. It stops at the first.

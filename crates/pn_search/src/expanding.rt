@@ -30,7 +30,7 @@ pub fn root_end(frame: &Frame, tables: &Tables, p: &Position) -> Option<bool>
     requires { IsReady frame.now.rules tables.now p.now }
     ensures { result ≡ Trees.end_at frame.now 0 p.now }
 {
-    let won = won_by(frame.attacker, own_end(&frame.rules, tables, p));
+    let won = won_by(frame.attacker, own_end(tables, p));
     if won.is_some() {
         return won;
     }

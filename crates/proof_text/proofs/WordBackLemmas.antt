@@ -7,6 +7,7 @@ use Rattle.foundation.specs.Numbers.{number_of, number_within, within}
 use Rattle.rules_model.specs.declared.board.Side.{Side}
 use Rattle.rules_model.specs.declared.board.Side.TheVariants.{White, Black}
 use Rattle.fen_model.proofs.DecimalLaws.{number-back}
+use Rattle.game_play.specs.declared.game.TheConstants.{MOST_PLIES}
 use Rattle.game_text.specs.Goal.{within as goal_within}
 use Rattle.proof_text.specs.Words.{goal_said, history_said, rules_said, start_said}
 use Rattle.proof_text.specs.Writing.{goal_text}
@@ -27,9 +28,9 @@ pub start-said : (fen : List ℕ) → start_said (codes "start " ++ fen) ≡ Som
 unfolding start_said
 start-said fen = refl
 
-pub history-said : (count : ℕ) → count ≤ 8192 → history_said (codes "history " ++ decimal count) ≡ Some count
+pub history-said : (count : ℕ) → count ≤ MOST_PLIES → history_said (codes "history " ++ decimal count) ≡ Some count
 unfolding history_said
-history-said count few = within-back 0 8192 count (omega arith) few (omega (arith, few))
+history-said count few = within-back 0 MOST_PLIES count (omega arith) few (omega (arith, few))
 
 goal-within : (side : Side) (n : ℕ) → 1 ≤ n → n ≤ 100
     → goal_within side (number_of (decimal n)) ≡ Some (record { attacker = side; moves = n })

@@ -4,7 +4,7 @@ use Rattle.std.specs.Str.{bytes_eq}
 use Rattle.variant_ini.specs.declared.key_line.KeyLine.{KeyLine}
 use Rattle.variant_ini.specs.LineKind.{LineKind, comment, foreign, header, pair, bad, line_kind, pair_of}
 use Rattle.variant_ini.specs.Section.{key_line}
-use Rattle.proof_text.specs.declared.pairs.TheConstants.{LONGEST_LINE}
+use Rattle.variant_ini.specs.declared.reading.TheConstants.{LONGEST_LINE}
 
 -- a pair as a line without blanks at the ends and beside the `=`
 abbrev pub compact : List ℕ × List ℕ → List ℕ

@@ -1,6 +1,7 @@
 -- What the lines of the head say, one by one.
 use Rattle.std.specs.Prelude.{ℕ, Bool, List, Option, bytes_eq, codes, option_and_then}
 use Rattle.foundation.specs.Numbers.{number_within}
+use Rattle.game_play.specs.declared.game.TheConstants.{MOST_PLIES}
 use Rattle.game_text.specs.declared.goal.Goal.{Goal}
 use Rattle.game_text.specs.Goal.{after_words, goal_by}
 
@@ -22,7 +23,7 @@ start_said text = after_words (codes "start ") text
 
 -- `history N`, N up to 8,192
 unfoldable pub history_said : List ℕ → Option ℕ
-history_said text = number_said (codes "history ") 0 8192 text
+history_said text = number_said (codes "history ") 0 MOST_PLIES text
 
 -- `goal white N` or `goal black N`, N from 1 to 100
 unfoldable pub goal_said : List ℕ → Option Goal

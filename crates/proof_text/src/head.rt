@@ -2,6 +2,7 @@
 ghost use Rattle.std.specs.Prelude.{◌≡◌, ◌+◌, ◌≤◌, [], IfOk};
 ghost use Rattle.io_ports.specs.Cause.{HasCause};
 ghost use Rattle.rules_model.specs.Fit.{IsFit};
+ghost use Rattle.game_play.specs.declared.game.TheConstants.{MOST_PLIES};
 ghost use Rattle.fen_model.specs.Reading.{fen_of};
 ghost use Rattle.proof_text.specs.Reading as Said;
 ghost use Rattle.proof_text.specs.TakingView.{IsUnread, Reads, Starts};
@@ -83,7 +84,7 @@ pub(crate) fn take_history<S: Source>(
 ) -> Result<u16, NoProof>
     ensures reads { Reads (S.left source.old) (S.left source.new)
         (Said.history_on number game.now) (λ count. Said.moves_on count (number + 1) game.now) result }
-    ensures within { IfOk result (λ count. count ≤ 8192) }
+    ensures within { IfOk result (λ count. count ≤ MOST_PLIES) }
     ensures cause { HasCause (S.faults source.old) (S.faults source.new) (IsUnread result) }
 {
     let is_there = take_text(source, line)?;

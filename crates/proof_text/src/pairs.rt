@@ -15,10 +15,7 @@ use crate::source_lines::{NoProof, take_text, text_if};
 use foundation::Text;
 use io_ports::{LineBuf, Source};
 use std::alloc::{AllocError, Global};
-use variant_ini::{KeyLine, Line, Pair, pair_of, read_line};
-
-/// The most bytes of a line of a variants file.
-const LONGEST_LINE: usize = 1024;
+use variant_ini::{KeyLine, LONGEST_LINE, Line, Pair, pair_of, read_line};
 
 /// The pair as a line without blanks at the ends and beside the `=`.
 fn compact(alloc: Global, pair: &Pair<'_>) -> Result<Text, AllocError>

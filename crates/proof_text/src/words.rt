@@ -1,11 +1,13 @@
 //! Reads the lines of the head.
 ghost use Rattle.std.specs.Prelude.{◌≡◌, ◌≤◌, IfSome};
 ghost use Rattle.std.specs.Option.{option_copied};
+ghost use Rattle.game_play.specs.declared.game.TheConstants.{MOST_PLIES};
 ghost use Rattle.game_text.specs.Goal.{after_words};
 ghost use Rattle.proof_text.specs.Reading.{version_said};
 ghost use Rattle.proof_text.specs.Words as Words;
 
 use foundation::number_within;
+use game_play::MOST_PLIES;
 use game_text::{Goal, read_goal_after};
 
 /// What stands after these words, where the text begins with them.
@@ -58,9 +60,9 @@ pub(crate) fn read_start(text: &[u8]) -> Option<&[u8]>
 #[tactic(auto, unfolding(crate::specs::Words::history_said))]
 pub(crate) fn read_history(text: &[u8]) -> Option<u16>
     ensures said { result ≡ Words.history_said text.now }
-    ensures within { IfSome result (λ count. count ≤ 8192) }
+    ensures within { IfSome result (λ count. count ≤ MOST_PLIES) }
 {
-    read_number_after(b"history ", 0, 8192, text)
+    read_number_after(b"history ", 0, MOST_PLIES as u16, text)
 }
 
 /// Reads `goal white N` or `goal black N`, N from 1 to 100.

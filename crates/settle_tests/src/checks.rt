@@ -156,8 +156,9 @@ fn expect_chess_unmet(rt: &impl Abort, alloc: Global, p: &Position, wanted: u32)
     expect_unmet(rt, alloc, &chess(), p, wanted);
 }
 
-// A check along the rank leaves steps off it, and every other move leaves some; where another king takes those away, one
-// move mates. A lone step is closed along its rank, and along its file without a check. A pawn promotes far from it.
+// A check along the rank leaves steps off it, and every other move leaves some; where another king takes those away,
+// one move mates. A lone step is closed along its rank, and along its file without a check. A pawn promotes far from
+// it.
 #[test]
 fn checks_that_leave_a_step_are_met(rt: HostRuntime) {
     let alloc = rt.alloc();

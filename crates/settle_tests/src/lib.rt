@@ -1,5 +1,5 @@
-//! Tests of what settles a position: moves that may check or leave no step and no leap, ends, the search over facts, and
-//! trees.
+//! Tests of what settles a position: moves that may check or leave no step and no leap, ends, the search over facts,
+//! and trees.
 #![tactic(auto)]
 
 #[cfg(test)]

@@ -21,8 +21,8 @@ fn is_met(board: &Board, replies: &Replies, m: &Move) -> bool
     replies.meets(board, m)
 }
 
-/// Asserts that of White's moves this many are not known to be met by a leap, and that after each of the others there is
-/// a legal move.
+/// Asserts that of White's moves this many are not known to be met by a leap, and that after each of the others there
+/// is a legal move.
 fn expect_unmet(rt: &impl Abort, alloc: Global, rules: &Rules, p: &Position, wanted: u32)
     requires { IsFit rules.now }
 {
@@ -48,8 +48,8 @@ fn expect_chess_unmet(rt: &impl Abort, alloc: Global, pieces: &str, wanted: u32)
     expect_unmet(rt, alloc, &chess(), &position(pieces), wanted);
 }
 
-// The knight leaps to a6: a rook goes there, and another move of it gives check. What takes the knight, and each move of
-// a knight that uncovers a check. Rook and pawns do not leap.
+// The knight leaps to a6: a rook goes there, and another move of it gives check. What takes the knight, and each move
+// of a knight that uncovers a check. Rook and pawns do not leap.
 #[test]
 fn moves_that_leave_a_leap_are_met(rt: HostRuntime) {
     let alloc = rt.alloc();
@@ -59,8 +59,8 @@ fn moves_that_leave_a_leap_are_met(rt: HostRuntime) {
     expect_chess_unmet(&rt, alloc, "Ke1 ke8 rb8 pa6", 5);
 }
 
-// A pinned knight does not leap; of two knights the other does, unless the king is attacked. A second knight serves where
-// the first is taken.
+// A pinned knight does not leap; of two knights the other does, unless the king is attacked. A second knight serves
+// where the first is taken.
 #[test]
 fn pinned_pieces_do_not_leap(rt: HostRuntime) {
     let alloc = rt.alloc();

@@ -142,8 +142,8 @@ fn a_mate_is_found_by_the_fewest_replies(rt: HostRuntime) {
     expect_grown(&rt, alloc, &p, 3, 9, (Some(true), (20, 59, 20)));
 }
 
-// The same check does not mate here, and is settled. The other one leaves two replies, with the numbers 22 and 8, and is
-// refuted by the latter, which takes the rook. Each other move leaves a king and a pawn, with two squares each.
+// The same check does not mate here, and is settled. The other one leaves two replies, with the numbers 22 and 8, and
+// is refuted by the latter, which takes the rook. Each other move leaves a king and a pawn, with two squares each.
 #[test]
 fn checks_are_refuted_one_after_the_other(rt: HostRuntime) {
     let (alloc, p) = (rt.alloc(), position("Ke4 Ra7 kh8 ph7"));

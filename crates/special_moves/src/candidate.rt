@@ -35,15 +35,14 @@ pub fn is_candidate(
             to,
             promo,
             gate: Some(kind),
-        } => moves_and_gates(rules, tables, p, sets, from, to, promo, kind),
+        } => moves_and_gates(tables, p, sets, from, to, promo, kind),
         Move::Castle {
             from,
             to,
             rook,
             gate,
         } => {
-            castles(rules, tables, p, sets, from, to, rook)
-                && castle_gates(rules, p, from, to, rook, gate)
+            castles(tables, p, sets, from, to, rook) && castle_gates(rules, p, from, to, rook, gate)
         }
         Move::Drop { kind, to } => drops_to(rules, p, kind, to),
     }

@@ -25,19 +25,12 @@ use rules_model::kinds::in_hand;
 use rules_model::{Cell, KINDS, Kind, Move, Placed, Position, Rules, Side, Square, Wing};
 
 /// Whether the king is in place and the way is open.
-fn is_open(
-    rules: &Rules,
-    tables: &Tables,
-    p: &Position,
-    sets: &BoardSets,
-    castle: &CastleSquares,
-) -> bool
-    requires tables { tables.now ≡ rules.now }
-    requires sets { AreSets rules.now p.now.side p.now.cells sets.now }
+fn is_open(tables: &Tables, p: &Position, sets: &BoardSets, castle: &CastleSquares) -> bool
+    requires sets { AreSets tables.now p.now.side p.now.cells sets.now }
     requires castle { IsFitCastle castle.now }
-    ensures { result ≡ Castles.is_open rules.now (repeat_of p.now) castle.now }
+    ensures { result ≡ Castles.is_open tables.now (repeat_of p.now) castle.now }
 {
-    holds_own_king(rules, p, castle.king) && way_is_open(rules, tables, p, sets, castle)
+    holds_own_king(tables.rules(), p, castle.king) && way_is_open(tables, p, sets, castle)
 }
 
 /// Whether a piece stands there that is no castling rook of the side.
@@ -65,27 +58,20 @@ fn is_blocked(rules: &Rules, p: &Position, wing: Wing) -> bool
 /// The side's castle to the wing, where the variant has castling, the side holds the right, and king, rook and way are
 /// as they must be.
 #[tactic(auto, unfolding(crate::specs::Castles::open_castle))]
-fn open_castle(
-    rules: &Rules,
-    tables: &Tables,
-    p: &Position,
-    sets: &BoardSets,
-    wing: Wing,
-) -> Option<CastleSquares>
-    requires fit { IsFit rules.now }
-    requires tables { tables.now ≡ rules.now }
-    requires sets { AreSets rules.now p.now.side p.now.cells sets.now }
-    ensures is { result ≡ Castles.open_castle rules.now (repeat_of p.now) wing }
+fn open_castle(tables: &Tables, p: &Position, sets: &BoardSets, wing: Wing) -> Option<CastleSquares>
+    requires sets { AreSets tables.now p.now.side p.now.cells sets.now }
+    ensures is { result ≡ Castles.open_castle tables.now (repeat_of p.now) wing }
     ensures on_board { IfSome result IsFitCastle }
 {
     if !(holds_right(&p.rights, p.side, wing) && tables.castling_on()) {
         return None;
     }
+    let rules = tables.rules();
     if is_blocked(rules, p, wing) {
         return None;
     }
     let castle = castle_of(rules, &p.cells, p.side, wing)?;
-    if is_open(rules, tables, p, sets, &castle) {
+    if is_open(tables, p, sets, &castle) {
         Some(castle)
     } else {
         None
@@ -102,7 +88,6 @@ fn is_castle(castle: &CastleSquares, from: Square, to: Square, rook: Square) -> 
 
 /// Whether king and rook of these squares castle to the wing.
 fn castles_on(
-    rules: &Rules,
     tables: &Tables,
     p: &Position,
     sets: &BoardSets,
@@ -111,23 +96,21 @@ fn castles_on(
     rook: Square,
     wing: Wing,
 ) -> bool
-    requires fit { IsFit rules.now }
-    requires tables { tables.now ≡ rules.now }
-    requires sets { AreSets rules.now p.now.side p.now.cells sets.now }
-    requires on { castling_on rules.now ≡ true }
-    ensures is { result ≡ Castling.castles_on rules.now (repeat_of p.now) from to rook wing }
+    requires sets { AreSets tables.now p.now.side p.now.cells sets.now }
+    requires on { castling_on tables.now ≡ true }
+    ensures is { result ≡ Castling.castles_on tables.now (repeat_of p.now) from to rook wing }
     ensures on_board { OnTrue result (to.0 < 120) }
 {
     if !holds_right(&p.rights, p.side, wing) {
         return false;
     }
-    match castle_of(rules, &p.cells, p.side, wing) {
+    match castle_of(tables.rules(), &p.cells, p.side, wing) {
         None => false,
         Some(castle) => {
             if !is_castle(&castle, from, to, rook) {
                 return false;
             }
-            is_open(rules, tables, p, sets, &castle)
+            is_open(tables, p, sets, &castle)
         }
     }
 }
@@ -135,7 +118,6 @@ fn castles_on(
 /// Whether king and rook of these squares castle.
 #[tactic(auto, unfolding(rules_model::specs::Castling::castles))]
 pub(crate) fn castles(
-    rules: &Rules,
     tables: &Tables,
     p: &Position,
     sets: &BoardSets,
@@ -143,15 +125,13 @@ pub(crate) fn castles(
     to: Square,
     rook: Square,
 ) -> bool
-    requires fit { IsFit rules.now }
-    requires tables { tables.now ≡ rules.now }
-    requires sets { AreSets rules.now p.now.side p.now.cells sets.now }
-    ensures is { result ≡ Castling.castles rules.now (repeat_of p.now) from to rook }
+    requires sets { AreSets tables.now p.now.side p.now.cells sets.now }
+    ensures is { result ≡ Castling.castles tables.now (repeat_of p.now) from to rook }
     ensures on_board { OnTrue result (to.0 < 120) }
 {
     tables.castling_on()
-        && (castles_on(rules, tables, p, sets, from, to, rook, Wing::Kingside)
-            || castles_on(rules, tables, p, sets, from, to, rook, Wing::Queenside))
+        && (castles_on(tables, p, sets, from, to, rook, Wing::Kingside)
+            || castles_on(tables, p, sets, from, to, rook, Wing::Queenside))
 }
 
 // ---- gates
@@ -284,38 +264,32 @@ fn push_castle<S: MoveSink>(
 
 /// Gives the castles to the wing.
 fn push_castles_to<S: MoveSink>(
-    rules: &Rules,
     tables: &Tables,
     p: &Position,
     sets: &BoardSets,
     wing: Wing,
     out: &mut S,
 ) -> Result<(), S::Full>
-    requires fit { IsFit rules.now }
-    requires tables { tables.now ≡ rules.now }
-    requires sets { AreSets rules.now p.now.side p.now.cells sets.now }
-    ensures ok { OnOk result (TakesAll S.takes (IsCastleTo rules.now (repeat_of p.now) wing) out.old out.new) }
-    ensures err { OnErr result (TakesSome S.stops (IsCastleTo rules.now (repeat_of p.now) wing) out.old out.new) }
+    requires sets { AreSets tables.now p.now.side p.now.cells sets.now }
+    ensures ok { OnOk result (TakesAll S.takes (IsCastleTo tables.now (repeat_of p.now) wing) out.old out.new) }
+    ensures err { OnErr result (TakesSome S.stops (IsCastleTo tables.now (repeat_of p.now) wing) out.old out.new) }
 {
-    match open_castle(rules, tables, p, sets, wing) {
+    match open_castle(tables, p, sets, wing) {
         None => Ok(()),
-        Some(castle) => push_castle(rules, p, &castle, out),
+        Some(castle) => push_castle(tables.rules(), p, &castle, out),
     }
 }
 
 /// Gives the castles.
 pub(crate) fn push_castles<S: MoveSink>(
-    rules: &Rules,
     tables: &Tables,
     p: &Position,
     sets: &BoardSets,
     out: &mut S,
 ) -> Result<(), S::Full>
-    requires fit { IsFit rules.now }
-    requires tables { tables.now ≡ rules.now }
-    requires sets { AreSets rules.now p.now.side p.now.cells sets.now }
-    ensures ok { OnOk result (TakesAll S.takes (IsCastle rules.now (repeat_of p.now)) out.old out.new) }
-    ensures err { OnErr result (TakesSome S.stops (IsCastle rules.now (repeat_of p.now)) out.old out.new) }
+    requires sets { AreSets tables.now p.now.side p.now.cells sets.now }
+    ensures ok { OnOk result (TakesAll S.takes (IsCastle tables.now (repeat_of p.now)) out.old out.new) }
+    ensures err { OnErr result (TakesSome S.stops (IsCastle tables.now (repeat_of p.now)) out.old out.new) }
 {
     if !tables.castling_on() {
         return Ok(());
@@ -324,6 +298,6 @@ pub(crate) fn push_castles<S: MoveSink>(
     if !holds_a_right(p) {
         return Ok(());
     }
-    push_castles_to(rules, tables, p, sets, Wing::Kingside, out)?;
-    push_castles_to(rules, tables, p, sets, Wing::Queenside, out)
+    push_castles_to(tables, p, sets, Wing::Kingside, out)?;
+    push_castles_to(tables, p, sets, Wing::Queenside, out)
 }

@@ -149,18 +149,16 @@ fn push_kind<S: MoveSink>(
 
 /// Gives the drops.
 pub(crate) fn push_drops<S: MoveSink>(
-    rules: &Rules,
     tables: &Tables,
     p: &Position,
     sets: &BoardSets,
     out: &mut S,
 ) -> Result<(), S::Full>
-    requires fit { IsFit rules.now }
-    requires tables { tables.now ≡ rules.now }
-    requires sets { AreSets rules.now p.now.side p.now.cells sets.now }
-    ensures ok { OnOk result (TakesAll S.takes (IsDrop rules.now (repeat_of p.now)) out.old out.new) }
-    ensures err { OnErr result (TakesSome S.stops (IsDrop rules.now (repeat_of p.now)) out.old out.new) }
+    requires sets { AreSets tables.now p.now.side p.now.cells sets.now }
+    ensures ok { OnOk result (TakesAll S.takes (IsDrop tables.now (repeat_of p.now)) out.old out.new) }
+    ensures err { OnErr result (TakesSome S.stops (IsDrop tables.now (repeat_of p.now)) out.old out.new) }
 {
+    let rules = tables.rules();
     if !rules.drops {
         return Ok(());
     }

@@ -60,7 +60,6 @@ fn is_gate(rules: &Rules, p: &Position, file: u8) -> bool
 /// square that it leaves.
 #[tactic(auto, unfolding(rules_model::specs::Candidates::is_piece_move))]
 pub(crate) fn moves_and_gates(
-    rules: &Rules,
     tables: &Tables,
     p: &Position,
     sets: &BoardSets,
@@ -69,10 +68,8 @@ pub(crate) fn moves_and_gates(
     promo: Promo,
     kind: Kind,
 ) -> bool
-    requires fit { IsFit rules.now }
-    requires tables { tables.now ≡ rules.now }
-    requires sets { AreSets rules.now p.now.side p.now.cells sets.now }
-    ensures { result ≡ Parts.moves_and_gates rules.now (repeat_of p.now) from to promo kind }
+    requires sets { AreSets tables.now p.now.side p.now.cells sets.now }
+    ensures { result ≡ Parts.moves_and_gates tables.now (repeat_of p.now) from to promo kind }
 {
     let plain = Move::Go {
         from,
@@ -80,6 +77,7 @@ pub(crate) fn moves_and_gates(
         promo,
         gate: None,
     };
+    let rules = tables.rules();
     let may = may_gate(rules, p, from, kind);
     may && piece_moves::is_candidate(rules, tables, p, sets, &plain)
 }
@@ -110,7 +108,6 @@ fn push_gates_of<S: MoveSink>(
 
 /// Gives the moves from the square that place a piece of these kinds there.
 fn push_gates_from<S: MoveSink>(
-    rules: &Rules,
     tables: &Tables,
     p: &Position,
     sets: &BoardSets,
@@ -118,34 +115,30 @@ fn push_gates_from<S: MoveSink>(
     held: Set,
     out: &mut S,
 ) -> Result<(), S::Full>
-    requires fit { IsFit rules.now }
-    requires tables { tables.now ≡ rules.now }
-    requires sets { AreSets rules.now p.now.side p.now.cells sets.now }
+    requires sets { AreSets tables.now p.now.side p.now.cells sets.now }
     requires from { from.0 < 120 }
     requires held { Parts.AreHeld (repeat_of p.now) held }
-    ensures ok { OnOk result (TakesAll S.takes (IsGateAt rules.now (repeat_of p.now) from) out.old out.new) }
-    ensures err { OnErr result (TakesSome S.stops (IsGateAt rules.now (repeat_of p.now) from) out.old out.new) }
+    ensures ok { OnOk result (TakesAll S.takes (IsGateAt tables.now (repeat_of p.now) from) out.old out.new) }
+    ensures err { OnErr result (TakesSome S.stops (IsGateAt tables.now (repeat_of p.now) from) out.old out.new) }
 {
-    match mover_on(rules, tables, p, sets, from) {
+    match mover_on(tables, p, sets, from) {
         None => Ok(()),
-        Some(mover) => push_gates_of(rules, p, mover, held, out),
+        Some(mover) => push_gates_of(tables.rules(), p, mover, held, out),
     }
 }
 
 /// Gives the moves that place a piece on the square that they leave.
 pub(crate) fn push_gates<S: MoveSink>(
-    rules: &Rules,
     tables: &Tables,
     p: &Position,
     sets: &BoardSets,
     out: &mut S,
 ) -> Result<(), S::Full>
-    requires fit { IsFit rules.now }
-    requires tables { tables.now ≡ rules.now }
-    requires sets { AreSets rules.now p.now.side p.now.cells sets.now }
-    ensures ok { OnOk result (TakesAll S.takes (IsGate rules.now (repeat_of p.now)) out.old out.new) }
-    ensures err { OnErr result (TakesSome S.stops (IsGate rules.now (repeat_of p.now)) out.old out.new) }
+    requires sets { AreSets tables.now p.now.side p.now.cells sets.now }
+    ensures ok { OnOk result (TakesAll S.takes (IsGate tables.now (repeat_of p.now)) out.old out.new) }
+    ensures err { OnErr result (TakesSome S.stops (IsGate tables.now (repeat_of p.now)) out.old out.new) }
 {
+    let rules = tables.rules();
     if !rules.gate_hand {
         return Ok(());
     }
@@ -156,7 +149,7 @@ pub(crate) fn push_gates<S: MoveSink>(
     let rank = first_rank(rules, p.side);
     for file in 0..FILES {
         if is_gate(rules, p, file) {
-            push_gates_from(rules, tables, p, sets, Square::at(file, rank), held, out)?;
+            push_gates_from(tables, p, sets, Square::at(file, rank), held, out)?;
         }
     }
     Ok(())

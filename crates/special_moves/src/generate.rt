@@ -30,8 +30,8 @@ pub fn push_moves<S: MoveSink>(
     ensures ok { OnOk result (TakesAll S.takes (FitSpecialMoves rules.now (repeat_of p.now)) out.old out.new) }
     ensures err { OnErr result (TakesSome S.stops (FitSpecialMoves rules.now (repeat_of p.now)) out.old out.new) }
 {
-    push_pawn_moves(rules, tables, p, sets, out)?;
-    push_gates(rules, tables, p, sets, out)?;
-    push_castles(rules, tables, p, sets, out)?;
-    push_drops(rules, tables, p, sets, out)
+    push_pawn_moves(tables, p, sets, out)?;
+    push_gates(tables, p, sets, out)?;
+    push_castles(tables, p, sets, out)?;
+    push_drops(tables, p, sets, out)
 }

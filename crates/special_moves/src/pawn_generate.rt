@@ -198,18 +198,16 @@ fn push_each<S: MoveSink>(
 /// Gives the sink the moves of the own pawns, each once and in no special order: those for which `is_candidate` answers
 /// yes. After an error it took some of them, each at most once.
 pub fn push_pawn_moves<S: MoveSink>(
-    rules: &Rules,
     tables: &Tables,
     p: &Position,
     sets: &BoardSets,
     out: &mut S,
 ) -> Result<(), S::Full>
-    requires fit { IsFit rules.now }
-    requires tables { tables.now ≡ rules.now }
-    requires sets { AreSets rules.now p.now.side p.now.cells sets.now }
-    ensures ok { OnOk result (TakesAll S.takes (FitPawnMoves rules.now (repeat_of p.now)) out.old out.new) }
-    ensures err { OnErr result (TakesSome S.stops (FitPawnMoves rules.now (repeat_of p.now)) out.old out.new) }
+    requires sets { AreSets tables.now p.now.side p.now.cells sets.now }
+    ensures ok { OnOk result (TakesAll S.takes (FitPawnMoves tables.now (repeat_of p.now)) out.old out.new) }
+    ensures err { OnErr result (TakesSome S.stops (FitPawnMoves tables.now (repeat_of p.now)) out.old out.new) }
 {
+    let rules = tables.rules();
     if rules.pawn.is_none() {
         return Ok(());
     }

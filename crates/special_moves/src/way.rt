@@ -74,15 +74,14 @@ pub(crate) fn holds_own_king(rules: &Rules, p: &Position, at: Square) -> bool
 }
 
 /// Whether the other side attacks the square.
-fn is_attacked(rules: &Rules, tables: &Tables, p: &Position, sets: &BoardSets, at: Square) -> bool
-    requires tables { tables.now ≡ rules.now }
-    requires sets { AreSets rules.now p.now.side p.now.cells sets.now }
+fn is_attacked(tables: &Tables, p: &Position, sets: &BoardSets, at: Square) -> bool
+    requires sets { AreSets tables.now p.now.side p.now.cells sets.now }
     requires at { at.0 < 120 }
-    ensures { result ≡ Attacks.attacks rules.now p.now.cells (other p.now.side) at.0 }
+    ensures { result ≡ Attacks.attacks tables.now p.now.cells (other p.now.side) at.0 }
 {
     let by = p.side.other();
     let occupied = sets.occupied();
-    if holds_own_king(rules, p, at) {
+    if holds_own_king(tables.rules(), p, at) {
         tables.attacks_king(&p.cells, sets.enemies, occupied, at, by)
     } else {
         tables.piece_attacks(&p.cells, sets.enemies, occupied, at, by)
@@ -91,22 +90,15 @@ fn is_attacked(rules: &Rules, tables: &Tables, p: &Position, sets: &BoardSets, a
 
 /// Whether the other side attacks no square of the king's way, its start and its target included.
 #[tactic(auto, using(foundation::proofs::CountLemmas::any))]
-fn is_safe_way(
-    rules: &Rules,
-    tables: &Tables,
-    p: &Position,
-    sets: &BoardSets,
-    castle: &CastleSquares,
-) -> bool
-    requires tables { tables.now ≡ rules.now }
-    requires sets { AreSets rules.now p.now.side p.now.cells sets.now }
+fn is_safe_way(tables: &Tables, p: &Position, sets: &BoardSets, castle: &CastleSquares) -> bool
+    requires sets { AreSets tables.now p.now.side p.now.cells sets.now }
     requires castle { IsFitCastle castle.now }
-    ensures { result ≡ not (any_below (Castling.king_passes_attack rules.now p.now.cells p.now.side castle.now) 120) }
+    ensures { result ≡ not (any_below (Castling.king_passes_attack tables.now p.now.cells p.now.side castle.now) 120) }
 {
     let from = castle.king.0;
     let to = castle.king_to.0;
     for at in from.min(to)..from.max(to) + 1 {
-        if is_attacked(rules, tables, p, sets, Square(at)) {
+        if is_attacked(tables, p, sets, Square(at)) {
             return false;
         }
     }
@@ -116,16 +108,14 @@ fn is_safe_way(
 /// Whether the way of the castle is open: nothing but king and rook stands on it, and the king's is not attacked.
 #[tactic(auto, unfolding(rules_model::specs::Castling::way_is_open))]
 pub(crate) fn way_is_open(
-    rules: &Rules,
     tables: &Tables,
     p: &Position,
     sets: &BoardSets,
     castle: &CastleSquares,
 ) -> bool
-    requires tables { tables.now ≡ rules.now }
-    requires sets { AreSets rules.now p.now.side p.now.cells sets.now }
+    requires sets { AreSets tables.now p.now.side p.now.cells sets.now }
     requires castle { IsFitCastle castle.now }
-    ensures { result ≡ Castling.way_is_open rules.now p.now.cells p.now.side castle.now }
+    ensures { result ≡ Castling.way_is_open tables.now p.now.cells p.now.side castle.now }
 {
-    is_clear(&p.cells, castle) && is_safe_way(rules, tables, p, sets, castle)
+    is_clear(&p.cells, castle) && is_safe_way(tables, p, sets, castle)
 }

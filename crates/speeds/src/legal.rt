@@ -1,6 +1,6 @@
-//! How long a step of a random walk takes with each question that a search asks of a position, in nanoseconds, for a few
-//! variants; the question `nothing` is the walk alone. With the name of a question it is asked alone, along a walk in
-//! chess, so that instructions can be counted.
+//! How long a step of a random walk takes with each question that a search asks of a position, in nanoseconds, for a
+//! few variants; the question `nothing` is the walk alone. With the name of a question it is asked alone, along a walk
+//! in chess, so that instructions can be counted.
 ghost use Rattle.std.specs.Prelude.{◌≡◌, true};
 ghost use Rattle.rules_model.specs.Fit.{IsFit};
 ghost use Rattle.rules_model.specs.Sound.{is_sound};

@@ -126,7 +126,7 @@ impl Line {
         ensures { result ≡ Stipulations.mated_by winner (result_after game.now self.now) }
     {
         game.prove_played();
-        match own_end(game.rules(), game.tables(), self.last(game)) {
+        match own_end(game.tables(), self.last(game)) {
             Outcome::Ongoing => { if self.is_cut(game) { Some(false) } else { None } }
             end => mated_by(winner, end),
         }

@@ -26,7 +26,7 @@ impl Table<'_> {
         ensures { result ≡ At.own_end self.now p.now }
     {
         self.game.prove_played();
-        let end = own_end(self.game.rules(), self.game.tables(), p);
+        let end = own_end(self.game.tables(), p);
         won_by(self.attacker, end)
     }
 

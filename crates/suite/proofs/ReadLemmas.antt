@@ -8,12 +8,14 @@ use Rattle.io_ports.specs.Source.{Takes}
 use Rattle.io_ports.proofs.Moved.{takes_none, takes_more}
 use Rattle.variant_rules.specs.Entries.{Named}
 use Rattle.game_text.specs.HeardLines.{HeardLines}
+use Rattle.game_text.specs.ReadView.{Plays as Adds, Says, Tells}
 use Rattle.game_text.proofs.HeardLemmas.{heard_so, same_needed}
+use Rattle.game_text.proofs.ReadLemmas.{says_told}
 use Rattle.game_text.specs.declared.unmade.Unmade.TheVariants.{Faulty, Unread, Memory}
 use Rattle.suite.specs.declared.fault.SuiteFault.{SuiteFault}
 use Rattle.suite.specs.declared.fault.SuiteFault.TheVariants.{LineTooLong}
 use Rattle.suite.specs.declared.problem.Problem.{Problem}
-use Rattle.suite.specs.ReadView.{Adds, IsUnread, NoSuite, Reads, Says, Tells}
+use Rattle.suite.specs.ReadView.{NoSuite, Reads}
 use Rattle.suite.specs.Suite.{Listed, and_then, is_skipped, lines_of_suite, lines_on, nothing_listed, problem_of, suite_of, suite_on, unless_faulty, with_line, with_problem}
 
 module _ (v : List Named) where
@@ -164,24 +166,6 @@ module _ (v : List Named) where
     few = λ more. let is = read.needed more in omega (arith, is);
     holds = inr (λ more. tt);
   }
-
--- and then the source did not fail
-pub unadded_heard : (said : Result Listed SuiteFault) (now : Listed) (why : NoSuite) → Adds {A = Unit {0}} said now (Err why) → IsUnread {A = Unit {0}} (Err why) → ⊥
-unadded_heard said now (Faulty fault) adds unread = unread
-unadded_heard said now Unread adds unread = adds
-unadded_heard said now Memory adds unread = unread
-
--- why a suite was not read to its end
-pub says_told : (said : Result Listed SuiteFault) (now : Listed) (why : NoSuite) → Says {A = Unit {0}} said now (Err why) → Tells {A = Listed} said (Err why)
-says_told said now (Faulty fault) says = says
-says_told said now Unread says = tt
-says_told said now Memory says = tt
-
--- it is the same answer to any question
-pub told_unread : (A B : Type 0) (why : NoSuite) → IsUnread {A = A} (Err why) → IsUnread {A = B} (Err why)
-told_unread A B (Faulty fault) unread = unread
-told_unread A B Unread unread = unread
-told_unread A B Memory unread = unread
 
 -- a suite was not read to its end
 pub read_failed : (v : List Named) (a b : Option (List ℕ)) (start now : Listed) (why : NoSuite) → start ≡ nothing_listed

@@ -13,7 +13,8 @@ use Rattle.suite.specs.declared.problem.Problem.{Problem}
 use Rattle.suite.specs.Answers.{AreAnswers}
 use Rattle.suite.specs.Leasts.{leasts}
 use Rattle.suite.specs.Problems.{least_of}
-use Rattle.suite.specs.ReadView.{NoSuite, Tells}
+use Rattle.game_text.specs.ReadView.{Tells}
+use Rattle.suite.specs.ReadView.{NoSuite}
 use Rattle.suite.specs.Report.{report, report_of, solved_of, suite_report, told_of, told_of_all}
 use Rattle.suite.specs.Suite.{Listed, and_then, lines_of_suite, suite_of}
 use Rattle.suite.proofs.SlotLaws.{answers-length, leasts-are}

@@ -6,8 +6,9 @@ ghost use Rattle.variant_rules.specs.Entries.{found};
 ghost use Rattle.variant_rules.specs.Playable.{IsPlayable};
 ghost use Rattle.game_text.specs.GameText as GameText;
 ghost use Rattle.game_text.specs.HeardLines.{HeardLines};
+ghost use Rattle.game_text.specs.ReadView.{IsUnread, Plays as Adds, Says, Tells};
 ghost use Rattle.suite.specs.Problems.{IsFair};
-ghost use Rattle.suite.specs.ReadView.{Adds, IsUnread, Reads, Says, Tells};
+ghost use Rattle.suite.specs.ReadView.{Reads};
 ghost use Rattle.suite.specs.Suite as Said;
 ghost use Rattle.suite.specs.Suite.{IsListed};
 

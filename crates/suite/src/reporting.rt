@@ -2,7 +2,7 @@
 ghost use Rattle.std.specs.Prelude.{◌≡◌, ◌<◌, ◌≤◌, IfOk};
 ghost use Rattle.io_ports.specs.Cause.{HasCause};
 ghost use Rattle.game_text.specs.HeardLines.{HeardLines};
-ghost use Rattle.suite.specs.ReadView.{IsUnread, Tells};
+ghost use Rattle.game_text.specs.ReadView.{IsUnread, Tells};
 ghost use Rattle.suite.specs.Report.{report_of, suite_report};
 ghost use Rattle.suite.specs.Suite.{IsListed, lines_of_suite};
 

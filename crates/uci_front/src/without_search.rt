@@ -84,7 +84,8 @@ fn answer_option<F: Files>(
     rest: Option<&[u8]>,
 ) -> Result<Option<Text>, Memory>
     ensures { Looked (Reads F.contents F.faults files.old files.new)
-        (λ reads. Plainly session.old session.new (command_with CommandKind.SetOption (words_said rest.entry)) reads result) }
+        (λ reads. Plainly session.old session.new (command_with CommandKind.SetOption (words_said rest.entry))
+        reads result) }
 {
     let words = words_in(alloc, rest)?;
     let setting = read_setting(alloc, &words)?;

@@ -18,4 +18,5 @@ pub use fault::IniFault;
 pub use key_line::KeyLine;
 pub use laws::{later_sections_change_no_option, options_are_inherited};
 pub use line::{Header, Line, Pair, pair_of, read_line};
+pub use reading::LONGEST_LINE;
 pub use sections::Sections;

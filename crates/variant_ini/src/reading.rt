@@ -14,7 +14,8 @@ use std::alloc::Global;
 
 const LARGEST_FILE: usize = 1_048_576;
 
-const LONGEST_LINE: usize = 1_024;
+/// The most bytes of a line of a variants file.
+pub const LONGEST_LINE: usize = 1_024;
 
 const MOST_SECTIONS: usize = 512;
 

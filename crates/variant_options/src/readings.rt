@@ -1,5 +1,5 @@
 //! What values say.
-ghost use Rattle.std.specs.Prelude.{◌≡◌, ◌+◌, ◌<◌, IfOk, IfSome, map};
+ghost use Rattle.std.specs.Prelude.{◌≡◌, ◌+◌, ◌<◌, ℕ, IfOk, IfSome, List, Option, map};
 ghost use Rattle.std.specs.List.{list_all, list_any};
 ghost use Rattle.std.specs.Option.{option_map};
 ghost use Rattle.variant_options.specs.Options as Options;
@@ -9,13 +9,10 @@ ghost use Rattle.variant_options.specs.Words as Words;
 use crate::letters::{letter, mask_in};
 use crate::value::{Area, Listed};
 use foundation::number_within;
-use rules_model::{Kind, Region, Value};
+use rules_model::{FILES, Kind, Region, Value};
 use std::alloc::{AllocError, Global};
 
-/// How many files the largest board has.
-pub const FILES: u8 = 12;
-
-/// How many squares it has.
+/// How many squares the largest board has.
 pub const SQUARES: u8 = 120;
 
 pub const ALL_SQUARES: Region = Region {
@@ -156,22 +153,54 @@ fn pair(word: &[u8]) -> Option<(Kind, Kind)>
     }
 }
 
+/// What a word says of a value that lists words.
+trait ReadWord: Sized {
+    ghost said: { List ℕ → Option Self };
+
+    /// What a word says, where it has the form.
+    fn read_word(word: &[u8]) -> Option<Self>
+        ensures { result ≡ said word.now };
+}
+
+impl ReadWord for (Kind, Kind) {
+    ghost said = { Readings.pair_of_kinds };
+
+    fn read_word(word: &[u8]) -> Option<(Kind, Kind)> {
+        pair(word)
+    }
+}
+
+impl ReadWord for Area {
+    ghost said = { Readings.area_of };
+
+    fn read_word(word: &[u8]) -> Option<Area> {
+        area(word)
+    }
+}
+
+/// What each word says, or `-`.
+fn read_listed<T: ReadWord + Drop>(alloc: Global, text: &[u8]) -> Result<Option<Vec<T>>, AllocError>
+    ensures { IfOk result (λ found. option_map (λ v. v.items) found ≡ Words.listed T.said text.now) }
+{
+    let mut found = Vec::new(alloc);
+    if is_hyphen(text) {
+        return Ok(Some(found));
+    }
+    let words = words(alloc, text)?;
+    for word in &words {
+        match T::read_word(word) {
+            Some(one) => found.push(one)?,
+            None => return Ok(None),
+        }
+    }
+    Ok(if found.is_empty() { None } else { Some(found) })
+}
+
 /// Pairs, or `-`.
 pub fn read_pairs(alloc: Global, text: &[u8]) -> Result<Option<Vec<(Kind, Kind)>>, AllocError>
     ensures { IfOk result (λ pairs. option_map (λ v. v.items) pairs ≡ Readings.read_pairs text.now) }
 {
-    let mut pairs = Vec::new(alloc);
-    if is_hyphen(text) {
-        return Ok(Some(pairs));
-    }
-    let words = words(alloc, text)?;
-    for word in &words {
-        match pair(word) {
-            Some(pair) => pairs.push(pair)?,
-            None => return Ok(None),
-        }
-    }
-    Ok(if pairs.is_empty() { None } else { Some(pairs) })
+    read_listed(alloc, text)
 }
 
 /// A square as `d4`, or a rank as `*8`.
@@ -184,24 +213,6 @@ fn area(word: &[u8]) -> Option<Area>
         return Some(Area::Rank(rank));
     }
     Some(Area::Square(FILES * rank + file_of_letter(*first)?))
-}
-
-/// Squares and ranks, or `-`.
-fn read_areas(alloc: Global, text: &[u8]) -> Result<Option<Vec<Area>>, AllocError>
-    ensures { IfOk result (λ areas. option_map (λ v. v.items) areas ≡ Words.listed Readings.area_of text.now) }
-{
-    let mut areas = Vec::new(alloc);
-    if is_hyphen(text) {
-        return Ok(Some(areas));
-    }
-    let words = words(alloc, text)?;
-    for word in &words {
-        match area(word) {
-            Some(area) => areas.push(area)?,
-            None => return Ok(None),
-        }
-    }
-    Ok(if areas.is_empty() { None } else { Some(areas) })
 }
 
 fn covers(area: Area, square: u8) -> bool
@@ -242,5 +253,6 @@ pub fn rank_alone(rank: u8) -> Region
 pub fn read_region(alloc: Global, text: &[u8]) -> Result<Option<Region>, AllocError>
     ensures { IfOk result (λ region. region ≡ Readings.read_region text.now) }
 {
-    Ok(read_areas(alloc, text)?.map(|areas| region_of(areas.as_slice())))
+    let areas: Option<Vec<Area>> = read_listed(alloc, text)?;
+    Ok(areas.map(|areas| region_of(areas.as_slice())))
 }

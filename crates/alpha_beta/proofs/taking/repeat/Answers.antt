@@ -1,13 +1,8 @@
-use Rattle.std.proofs.Common.{◌≡◌, Result, Ok, Err, OnOk, IsErrOf, refl, rules}
+use Rattle.std.proofs.Common.{◌≡◌, rules}
 use Rattle.io_ports.specs.declared.limits.SearchFault.TheVariants as fault
-use Rattle.watching.specs.declared.halt.Halt.{Halt}
 use Rattle.watching.specs.declared.halt.Halt.TheVariants as halt
+use Rattle.watching.specs.LookLaws.{either_way}
 use Rattle.alpha_beta.proofs.taking.repeat.Goals as goal
-
--- what holds after an answer holds after an error too
-either_way : {P : Type 0} (r : Result (Unit {0}) Halt) → OnOk r P → ((why : Halt) → IsErrOf r why → P) → P
-either_way (Ok done) gone ended = gone
-either_way (Err why) gone ended = ended why refl
 
 pub returns-then-racer-clause-gone : goal.returns-then-racer-clause-gone
 returns-then-racer-clause-gone g c =

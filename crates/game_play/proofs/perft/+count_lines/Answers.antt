@@ -15,12 +15,12 @@ pub apply_with-next_sets-requires-clause-legal : goal.apply_with-next_sets-requi
 apply_with-next_sets-requires-clause-legal t c =
     let low : length c.args.moves.now ≤ c.loop-i.i = omega arith in
     let high : c.loop-i.i < length c.loop-i.moves = omega arith in
-    appended-at (λ m. Member m (legal c.args.rules.now (repeat_of c.args.p.now))) c.args.moves.now c.loop-i.moves c.loop-i.invariant.listed c.loop-i.i c.index.result.now low high
+    appended-at (λ m. Member m (legal c.args.tables.now (repeat_of c.args.p.now))) c.args.moves.now c.loop-i.moves c.loop-i.invariant.listed c.loop-i.i c.index.result.now low high
     (c.index.ensures ∙ ap (λ ms. get_or ms c.loop-i.i c.index.result.now) c.moves-in-loop-i.view_is)
 
 pub loop-i-preserved : goal.loop-i-preserved
 loop-i-preserved t c =
-    let rules = c.args.rules.now in
+    let rules = c.args.tables.now in
     let f = λ (m : Move). perft rules (c.args.plies - 1) (next rules c.args.p.now m) in
     let joined : (c.if-plies-eq2.moves ≡ c.loop-i.moves) × (c.if-plies-eq2.lines ≡ min (f c.index.result.now) (2 ^ 128 - 1)) =
     elim c.if-plies-eq2.branch [
@@ -40,7 +40,7 @@ loop-i-preserved t c =
 
 pub returns-clause-count : goal.returns-clause-count
 returns-clause-count t c =
-    let rules = c.args.rules.now in
+    let rules = c.args.tables.now in
     let f = λ (m : Move). perft rules (c.args.plies - 1) (next rules c.args.p.now m) in
     let l = length-drop c.len-first.result c.loop-i.moves in
     let all : length (drop c.len-first.result c.loop-i.moves) ≤ c.loop-i.i - c.len-first.result = omega arith in

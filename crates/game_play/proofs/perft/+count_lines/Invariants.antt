@@ -14,6 +14,6 @@ abbrev pub invariant-loop-i : goal.invariant-loop-i
 invariant-loop-i l = record {
   first : l.first ≡ length l.fn.moves;
   end : l.i-end ≡ length l.moves;
-  listed : Appends (λ m. Member m (legal l.rules (repeat_of l.p))) l.fn.moves l.moves;
-  total : l.total ≡ min (sum_by (λ m. perft l.rules (l.plies - 1) (next l.rules l.p m)) (take (l.i - l.first) (drop l.first l.moves))) (2 ^ 128 - 1);
+  listed : Appends (λ m. Member m (legal l.tables (repeat_of l.p))) l.fn.moves l.moves;
+  total : l.total ≡ min (sum_by (λ m. perft l.tables (l.plies - 1) (next l.tables l.p m)) (take (l.i - l.first) (drop l.first l.moves))) (2 ^ 128 - 1);
 }

@@ -3,11 +3,10 @@ use Rattle.io_ports.specs.declared.limits.SearchFault.TheVariants as fault
 use Rattle.watching.specs.declared.halt.Halt.{Halt}
 use Rattle.watching.specs.declared.halt.Halt.TheVariants as halt
 use Rattle.mate_showing.proofs.OrderLaws.{from_ok}
-use Rattle.watching.specs.LookLaws.{on_ok_of}
+use Rattle.watching.specs.LookLaws.{either_way, on_ok_of}
 use Rattle.mate_search.specs.Solves.{IsAnswer}
 use Rattle.mate_search.specs.declared.answer.Mate.{Mate}
 use Rattle.mate_search.proofs.MateLaws.{answers-uncut, fails-memory, heard-looked}
-use Rattle.mate_search.proofs.RaceLaws.{either-way}
 use Rattle.mate_search.proofs.whole.solve.Goals as goal
 
 pub returns-then-eq-clause-heard : goal.returns-then-eq-clause-heard
@@ -24,21 +23,21 @@ pub shape_of-ports : goal.shape_of-ports
 shape_of-ports g c =
     let r = c.solve_watched-passes.result.1 in
     let e = c.solve_watched-passes.ensures in
-    let lent = either-way r (on_ok_of r e.gone (λ went. went.lent)) (λ why is. (e.ended why is).lent) in
+    let lent = either_way r (on_ok_of r e.gone (λ went. went.lent)) (λ why is. (e.ended why is).lent) in
     sym lent.same.clock_is
 
 pub shape_of-ports-2 : goal.shape_of-ports-2
 shape_of-ports-2 g c =
     let r = c.solve_watched-passes.result.1 in
     let e = c.solve_watched-passes.ensures in
-    let lent = either-way r (on_ok_of r e.gone (λ went. went.lent)) (λ why is. (e.ended why is).lent) in
+    let lent = either_way r (on_ok_of r e.gone (λ went. went.lent)) (λ why is. (e.ended why is).lent) in
     sym lent.same.sink_is
 
 pub shape_of-ports-3 : goal.shape_of-ports-3
 shape_of-ports-3 g c =
     let r = c.solve_watched-passes.result.1 in
     let e = c.solve_watched-passes.ensures in
-    let lent = either-way r (on_ok_of r e.gone (λ went. went.lent)) (λ why is. (e.ended why is).lent) in
+    let lent = either_way r (on_ok_of r e.gone (λ went. went.lent)) (λ why is. (e.ended why is).lent) in
     sym lent.same.source_is
 
 pub returns-in-Ok-end-clause-heard : goal.returns-in-Ok-end-clause-heard

@@ -7,7 +7,7 @@ use Rattle.mate_tree.proofs.numbers.best_child.Goals.{then-own-best, else-own-be
 
 pub loop-i-init : goal.loop-i-init
 unfolding least_of
-loop-i-init c = record { place = omega arith; own = refl; others = refl }
+loop-i-init c = record { place = λ some. some; own = refl; others = refl }
 
 pub loop-i-preserved : goal.loop-i-preserved
 loop-i-preserved c =
@@ -25,7 +25,7 @@ loop-i-preserved c =
     elim c.if-own-best.branch [
       | then-own-best b ↦
           rw b.best-is (record {
-            place = omega (arith, here);
+            place = λ some. here;
             own = omega (arith, so_far.own, least, own, b.if-own-best.true);
             others = omega (arith, so_far.others, sum, other, c.saturating_add.ensures, c.min.ensures);
           })

@@ -6,4 +6,4 @@ use Rattle.move_tests.proofs.pinned.free_men.Goals as goal
 pub free-free-requires-clause-kings : goal.free-free-requires-clause-kings
 free-free-requires-clause-kings c =
     let whole : length c.args.p.now.cells ≡ 120 = search rules in
-    kings_small c.rules.result.now White c.args.p.now.cells c.kings-kings.result whole c.kings-kings.ensures
+    kings_small c.rules.result.now White c.args.p.now.cells c.sets_of.result.kings whole c.sets_of.ensures.kings

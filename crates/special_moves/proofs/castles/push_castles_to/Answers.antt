@@ -13,9 +13,9 @@ returns-in-None-clause-ok g c = all-none g.met.S.MoveSink.law _ _ (wing-none _ _
 pub returns-in-Some-clause-ok : goal.returns-in-Some-clause-ok
 returns-in-Some-clause-ok g c =
     let is = sym c.open_castle.ensures.is ∙ c.in-Some.is in
-    on_ok_weaker c.push_castle.result (λ all. all-same _ _ _ _ _ all (wing-some _ _ _ _ is) (wing-of _ _ _ _ is)) c.push_castle.ensures.ok
+    on_ok_weaker c.push_castle.result (λ all. all-same _ _ _ _ _ all (wing-some _ _ _ _ is) (wing-of _ _ _ _ is)) (rw c.rules.ensures.is at c.push_castle.ensures.ok)
 
 pub returns-in-Some-clause-err : goal.returns-in-Some-clause-err
 returns-in-Some-clause-err g c =
     let is = sym c.open_castle.ensures.is ∙ c.in-Some.is in
-    on_err_weaker c.push_castle.result (λ some. some-within _ _ _ _ _ some (wing-some _ _ _ _ is)) c.push_castle.ensures.err
+    on_err_weaker c.push_castle.result (λ some. some-within _ _ _ _ _ some (wing-some _ _ _ _ is)) (rw c.rules.ensures.is at c.push_castle.ensures.err)

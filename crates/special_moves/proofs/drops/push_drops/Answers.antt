@@ -1,4 +1,4 @@
-use Rattle.std.proofs.Common.{arith, sym, ◌∙◌}
+use Rattle.std.proofs.Common.{arith, ap, sym, ◌∙◌}
 use Rattle.foundation.proofs.AppendedLemmas.{on_err}
 use Rattle.piece_moves.proofs.TakingLemmas.{all-none}
 use Rattle.rules_model.specs.Repeats.{repeat_of}
@@ -8,7 +8,8 @@ use Rattle.special_moves.proofs.drops.push_drops.Goals as goal
 use Rattle.special_moves.proofs.drops.push_drops.Goals.{then-has_drops+in_ok-push_kind, else-has_drops}
 
 pub returns-then-not-rules-clause-ok : goal.returns-then-not-rules-clause-ok
-returns-then-not-rules-clause-ok g c = all-none g.met.S.MoveSink.law _ _ (no-drops c.args.rules.now (repeat_of c.args.p.now) c.if-not-rules.true)
+returns-then-not-rules-clause-ok g c =
+    all-none g.met.S.MoveSink.law _ _ (no-drops c.args.tables.now (repeat_of c.args.p.now) (sym (ap (λ r. r.drops) c.rules-rules.ensures.is) ∙ c.if-not-rules.true))
 
 pub loop-k-init : goal.loop-k-init
 loop-k-init g c = below-none g.met.S.MoveSink.law _ _
@@ -24,7 +25,8 @@ loop-k-preserved g c =
 
 pub returns-in_err-push_kind-clause-err : goal.returns-in_err-push_kind-clause-err
 returns-in_err-push_kind-clause-err g c =
-    on_err _ (below-some g.met.S.MoveSink.law _ (kinds-apart _ _) _ 26 _ _ _ c.loop-k-test.true c.loop-k.invariant c.in_err-push_kind.ensures.err)
+    rw (sym c.rules-rules.ensures.is)
+    (on_err _ (below-some g.met.S.MoveSink.law _ (kinds-apart _ _) _ 26 _ _ _ c.loop-k-test.true c.loop-k.invariant c.in_err-push_kind.ensures.err))
 
 pub returns-clause-ok : goal.returns-clause-ok
-returns-clause-ok g c = below-last _ _ _ _ _ _ (omega arith) c.loop-k.invariant
+returns-clause-ok g c = rw (sym c.rules-rules.ensures.is) (below-last _ _ _ _ _ _ (omega arith) c.loop-k.invariant)

@@ -9,13 +9,13 @@ use Rattle.special_moves.proofs.PartLemmas.{fit-at, fit-some, pawnless}
 use Rattle.special_moves.proofs.pawn_generate.push_pawn_moves.Goals as goal
 
 pub returns-then-is_none-clause-ok : goal.returns-then-is_none-clause-ok
-returns-then-is_none-clause-ok g c = all-none g.met.S.MoveSink.law _ _ (pawnless _ _ (c.is_none.ensures ∙ ap not c.if-is_none.true))
+returns-then-is_none-clause-ok g c = rw (sym c.rules-rules.ensures.is) (all-none g.met.S.MoveSink.law _ _ (pawnless _ _ (c.is_none.ensures ∙ ap not c.if-is_none.true)))
 
 pub loop-from-init : goal.loop-from-init
 loop-from-init g c = record {
   small = c.in_ok-left.ensures.on_board;
-  own = rw c.requires.tables at c.in_ok-left.ensures.own;
-  taken = rw c.requires.tables at c.in_ok-left.ensures.ok;
+  own = rw (sym c.rules-rules.ensures.is) at c.in_ok-left.ensures.own;
+  taken = rw (sym c.rules-rules.ensures.is) at c.in_ok-left.ensures.ok;
 }
 
 pub loop-from-preserved : goal.loop-from-preserved
@@ -33,8 +33,9 @@ pub returns-in_err-push_each-clause-err : goal.returns-in_err-push_each-clause-e
 returns-in_err-push_each-clause-err g c =
     let small = c.loop-from.invariant.small c.in-Some.from c.in-Some.ensures.some.member in
     let own = c.loop-from.invariant.own c.in-Some.from c.in-Some.ensures.some.member in
-    on_err _ (turn-some g.met.S.MoveSink.law _ start_of _ _ _ _ _ c.in-Some.ensures.some.member c.loop-from.invariant.taken
-    (fit-some _ _ (record { 0 = c.in-Some.from }) small own g.S.MoveSink.stops _ _ c.in_err-push_each.ensures.err))
+    rw (sym c.rules-rules.ensures.is)
+    (on_err _ (turn-some g.met.S.MoveSink.law _ start_of _ _ _ _ _ c.in-Some.ensures.some.member c.loop-from.invariant.taken
+    (fit-some _ _ (record { 0 = c.in-Some.from }) small own g.S.MoveSink.stops _ _ c.in_err-push_each.ensures.err)))
 
 pub returns-clause-ok : goal.returns-clause-ok
-returns-clause-ok g c = turn-all g.S.MoveSink.takes _ start_of _ _ _ c.in_default.ensures.none c.loop-from.invariant.taken
+returns-clause-ok g c = rw (sym c.rules-rules.ensures.is) (turn-all g.S.MoveSink.takes _ start_of _ _ _ c.in_default.ensures.none c.loop-from.invariant.taken)

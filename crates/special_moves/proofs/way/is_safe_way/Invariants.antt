@@ -4,4 +4,4 @@ use Rattle.rules_model.specs.Castling.{king_passes_attack}
 use Rattle.special_moves.proofs.way.is_safe_way.Given as goal
 
 abbrev pub invariant-loop-at : goal.invariant-loop-at
-invariant-loop-at l = any_below (king_passes_attack l.rules l.p.cells l.p.side l.castle) l.at ≡ false
+invariant-loop-at l = any_below (king_passes_attack l.tables l.p.cells l.p.side l.castle) l.at ≡ false

@@ -1,6 +1,7 @@
 use Rattle.std.proofs.Common.{refl, arith}
 use Rattle.std.proofs.lemmas.Result.{err_from_is_err_and}
-use Rattle.suite.proofs.ReadLemmas.{adds_same, read_end, read_long, read_more, read_none, read_so_far, read_stop, read_unadded, unadded_heard}
+use Rattle.game_text.proofs.ReadLemmas.{unplayed_heard}
+use Rattle.suite.proofs.ReadLemmas.{adds_same, read_end, read_long, read_more, read_none, read_so_far, read_stop, read_unadded}
 use Rattle.suite.proofs.reading.add_lines.Goals as goal
 
 pub loop-number-init : goal.loop-number-init
@@ -22,7 +23,7 @@ returns-in_err-add_line-in-Line-clause-heard g c =
 pub returns-in_err-add_line-in-Line-clause-cause : goal.returns-in_err-add_line-in-Line-clause-cause
 returns-in_err-add_line-in-Line-clause-cause g c =
     let p = err_from_is_err_and c.from_residual.result c.from_residual.ensures.1 in
-    rw (p.1, p.2) (record { later = omega arith; failed = λ unread. absurd (unadded_heard _ c.add_line.new.suite c.in_err-add_line-in-Line.field-0.0 c.in_err-add_line-in-Line.ensures.adds unread) })
+    rw (p.1, p.2) (record { later = omega arith; failed = λ unread. absurd (unplayed_heard _ c.add_line.new.suite c.in_err-add_line-in-Line.field-0.0 c.in_err-add_line-in-Line.ensures.adds unread) })
 
 pub returns-in-TooLong-clause-heard : goal.returns-in-TooLong-clause-heard
 returns-in-TooLong-clause-heard g c = read_long c.args.variants.now _ _ _ c.args.suite.now c.loop-number.suite c.loop-number.number c.loop-number.invariant.read c.in-TooLong.ensures.takes

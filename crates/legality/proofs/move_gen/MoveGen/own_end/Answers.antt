@@ -1,7 +1,5 @@
 use Rattle.std.proofs.Common.{ap, sym, ◌∙◌}
-use Rattle.rules_model.specs.declared.rules.Rules.{Rules}
 use Rattle.rules_model.specs.Ends.{early_end}
-use Rattle.rules_model.specs.Repeats.{repeat_of}
 use Rattle.legality.specs.NoMoveEnds.{no_move_end_where}
 use Rattle.legality.specs.Stance.{Stance, repeat_in}
 use Rattle.legality.proofs.NoMoveLaws.{late_end_found}
@@ -10,7 +8,6 @@ use Rattle.legality.proofs.move_gen.MoveGen.own_end.Goals as goal
 pub returns-in-Ongoing : goal.returns-in-Ongoing
 returns-in-Ongoing c =
     let any = c.can_go-any.result in
-    let r = repeat_of c.self.inside.pin_info.p.now in
     let on = sym c.in-Ongoing.is ∙ c.self.invariant.is_early ∙ ap (λ (s : Stance). early_end s.rules (repeat_in s)) c.self.view_is in
-    c.no_move_end.ensures ∙ ap (λ (rules : Rules). no_move_end_where rules r any) c.rules.ensures.is
+    c.no_move_end.ensures
     ∙ ap (λ (s : Stance). no_move_end_where s.rules (repeat_in s) any) c.self.view_is ∙ late_end_found _ _ on any c.can_go-any.ensures

@@ -2,7 +2,7 @@ use Rattle.std.proofs.Common.{◌≡◌, ℕ, true, ◌&&◌, not}
 use Rattle.rules_model.specs.Repeats.{repeat_of}
 use Rattle.square_set.specs.Members.{has, size}
 use Rattle.legality.specs.Asking.{is_asked_by}
-use Rattle.legality.proofs.asked.Asked.of_shift.Given as goal
+use Rattle.legality.proofs.asked.Asked.of_each.Given as goal
 
 abbrev pub invariant-loop-to : goal.invariant-loop-to
 invariant-loop-to l = record {
