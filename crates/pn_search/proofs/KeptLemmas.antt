@@ -1,11 +1,12 @@
 -- What is kept of trees.
-use Rattle.std.proofs.Common.{◌≡◌, ℕ, suc, ◌<◌, ◌^◌, List, [], ◌∷◌, length, get_or, true, false, Some, None, slice_get, option_and_then, cond, refl, ap, sym, ◌∙◌, subst, arith}
+use Rattle.std.proofs.Common.{◌≡◌, ℕ, suc, ◌+◌, ◌<◌, ◌^◌, List, [], ◌∷◌, length, get_or, true, false, Some, None, slice_get, option_and_then, cond, refl, ap, sym, ◌∙◌, subst, arith}
 use Rattle.std.proofs.lemmas.List.{get_or_default}
 use Rattle.rules_model.specs.declared.board.Position.{Position}
 use Rattle.rules_model.specs.Sides.{same_side}
 use Rattle.rules_model.specs.Sound.{is_sound}
 use Rattle.mate_core.specs.declared.frame.Frame.{Frame}
 use Rattle.pn_search.specs.declared.node.Node.{Node}
+use Rattle.pn_search.specs.declared.node.State.TheVariants.{Inner}
 use Rattle.pn_search.specs.declared.numbers.Pair.{Pair}
 use Rattle.pn_search.specs.Kept.{IsKept, IsExpandable}
 use Rattle.pn_search.specs.Numbers.{open_pair, pair_at, pairs_of, pairs_from}
@@ -13,7 +14,8 @@ use Rattle.pn_search.specs.Shapes.{AreInPlace}
 use Rattle.pn_search.specs.Trees.{ProofTree, HasGrown, IsPn, Spot, spot_at, root_node, new_tree, nodes_after, most_proving, end_at, is_settled, expanded, grown, pn}
 use Rattle.pn_search.proofs.Carried.{length-pairs}
 use Rattle.pn_search.proofs.Descent.{IsOn}
-use Rattle.pn_search.proofs.Grown.{IsRooted, pn-rooted, most_proving-on, expanded-grows}
+use Rattle.pn_search.proofs.Expanded.{stands-read}
+use Rattle.pn_search.proofs.Grown.{IsRooted, IsChildOf, pn-rooted, most_proving-on, expanded-grows, child-of, child-within}
 use Rattle.pn_search.proofs.Standing.{in_place}
 
 kept-root : (f : Frame) (root : Position) (n : ℕ) → is_sound f.rules root ≡ true → end_at f 0 root ≡ None → IsKept (record { frame = f; root = root; moves = n; nodes = root_node f root n ∷ [] }) (open_pair ∷ [])
@@ -118,3 +120,28 @@ pub same-spot : (t u : ProofTree) (place : ℕ) (p : Position) → t ≡ u → p
 same-spot t u place p e a b =
     let found : ◌≡◌ {A = Spot} (spot_at place p) (most_proving u) = λ i. record { place = a i; position = b i } in
     found ∙ ap most_proving (sym e)
+
+-- ---- a child, as it is read
+
+-- the child with this number is among the nodes and the pairs, and leads on
+pub record IsChildRead (t u : ProofTree) (ps : List Pair) (place child : ℕ) : Type 0 where
+  pub within : child < length t.nodes
+  pub paired : child < length ps
+  pub few : child < 2 ^ 32
+  pub leads : (w : Node) → w ≡ get_or t.nodes child w → IsChildOf u place child w.chosen
+
+-- v was read at the place
+pub child-read : (t u : ProofTree) (ps : List Pair) → IsKept t ps → t ≡ u → (place k : ℕ) (v : Node) (first count : ℕ) → place < length u.nodes → v ≡ get_or t.nodes place v → v.state ≡ Inner first count → k < count → IsChildRead t u ps place (first + k)
+child-read t u ps kept e place k v first count low read state few =
+    let r : IsRooted u = subst IsRooted e (kept-rooted t ps kept) in
+    let same = nodes-are t u e in
+    let long = ap length same in
+    let stands : slice_get u.nodes place ≡ Some v = subst (λ ns. slice_get ns place ≡ Some v) same (stands-read t.nodes place v (omega arith) read) in
+    let inside = child-within u r place k v first count stands state few in
+    let within : first + k < length t.nodes = omega arith in
+    record {
+      within = within;
+      paired = let a = pairs-long t.nodes ps kept.pairs in omega arith;
+      few = let a = kept.few in omega arith;
+      leads = λ w is. child-of u r place k v first count stands state few w (subst (λ ns. slice_get ns (first + k) ≡ Some w) same (stands-read t.nodes (first + k) w within is));
+    }

@@ -11,3 +11,4 @@ pub mod Fair
 pub mod Progress
 pub mod Sought
 pub mod CountLaws
+pub mod WayLaws

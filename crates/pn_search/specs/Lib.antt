@@ -4,4 +4,5 @@ pub mod Shapes
 pub mod Kept
 pub mod Meaning
 pub mod Finds
+pub mod Ways
 pub mod MateCount

@@ -49,15 +49,18 @@ pub(crate) fn best_child(nodes: &[Node], pairs: &[Pair], at: usize) -> Option<us
     }
 }
 
-/// The board after the move that leads to a node.
-pub(crate) fn stepped<'t>(board: Board<'t>, chosen: &Option<Move>) -> Board<'t>
-    requires { (m : Move) → chosen.now ≡ Some m → Member m (legal_in board) }
-    ensures rules { result.rules ≡ board.entry.rules }
+/// The board after the move that leads to a node. No move leads to the root.
+pub(crate) fn stepped<'t>(board: &Board<'t>, chosen: &Option<Move>) -> Board<'t>
+    requires { (m : Move) → chosen.now ≡ Some m → Member m (legal_in board.now) }
+    ensures rules { result.rules ≡ board.now.rules }
     ensures position { result.position ≡
-        Trees.position_after board.entry.rules board.entry.position chosen.now }
+        Trees.position_after board.now.rules board.now.position chosen.now }
 {
     match chosen {
         Some(m) => board.after(m),
-        None => board,
+        None => {
+            board.prove_ready();
+            Board::new(board.tables(), board.position())
+        }
     }
 }

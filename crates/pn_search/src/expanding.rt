@@ -1,5 +1,5 @@
 //! What becomes of a leaf that is expanded.
-ghost use Rattle.std.specs.Prelude.{◌≡◌, ◌+◌, ◌<◌, ◌≤◌, ◌++◌, ◌^◌, ℕ, true, Some, None, IfOk, OnOk, OnErr, length, map, take, replicate, slice_get, slice_set};
+ghost use Rattle.std.specs.Prelude.{◌≡◌, ◌+◌, ◌<◌, ◌≤◌, ◌++◌, ◌^◌, ℕ, true, Some, None, IfOk, OnOk, OnErr, length, map, replicate, slice_get, slice_set};
 ghost use Rattle.legality.specs.Stance.{legal_in};
 ghost use Rattle.rules_model.specs.Ready.{IsReady};
 ghost use Rattle.pn_search.specs.declared.node.Node.{Node};
@@ -77,7 +77,7 @@ fn left_after(node: &Node) -> u8
     }
 }
 
-// Appends a child for each of the moves, and its pair.
+// Appends a child for each of the moves, and its pair. Without memory both are as before.
 fn push_children(
     parent: u32,
     node: Node,
@@ -89,19 +89,21 @@ fn push_children(
     ensures nodes { OnOk result (nodes.new.items ≡ nodes.old.items ++ map (Kept.written_child parent node) moves.now) }
     ensures pairs { OnOk result
         (pairs.new.items ≡ pairs.old.items ++ replicate (length moves.now) Numbers.open_pair) }
-    ensures nodes_before { OnErr result (take (length nodes.old.items) nodes.new.items ≡ nodes.old.items) }
-    ensures pairs_before { OnErr result (take (length pairs.old.items) pairs.new.items ≡ pairs.old.items) }
+    ensures same_nodes { OnErr result (nodes.new.items ≡ nodes.old.items) }
+    ensures same_pairs { OnErr result (pairs.new.items ≡ pairs.old.items) }
 {
     let left = left_after(&node);
+    nodes.reserve(moves.len())?;
+    pairs.reserve(moves.len())?;
     for m in moves {
-        nodes.push(Node {
+        nodes.push_reserved(Node {
             parent,
             state: State::Open,
             chosen: Some(*m),
             left,
             attacking: !node.attacking,
-        })?;
-        pairs.push(OPEN)?;
+        });
+        pairs.push_reserved(OPEN);
     }
     Ok(())
 }
@@ -144,11 +146,7 @@ fn open(
     }
     let node = nodes[leaf.place];
     let parent = leaf.place as u32;
-    if let Err(memory) = push_children(parent, node, moves.as_slice(), nodes, pairs) {
-        nodes.truncate(first);
-        pairs.truncate(first);
-        return Err(memory);
-    }
+    push_children(parent, node, moves.as_slice(), nodes, pairs)?;
     nodes[leaf.place].state = State::Inner {
         first: first as u32,
         count: count as u32,

@@ -9,6 +9,7 @@ use crate::grew::Grew;
 use crate::tree::Tree;
 use attack_tables::Tables;
 use game_play::Game;
+use mate_core::Frame;
 use mate_shards::{Passes, Shards};
 use playing::Board;
 use rules_model::{Memory, Side};
@@ -30,8 +31,9 @@ fn grow_out(tree: &mut Tree, tables: &Tables) -> Result<(), Memory>
     ensures root { tree.new.root ≡ tree.old.root }
     ensures moves { tree.new.moves ≡ tree.old.moves }
 {
+    let mut way = tree.root_way(tables)?;
     'growing: loop {
-        match tree.grow(tables)? {
+        match tree.grow_on(&mut way)? {
             Grew::Expanded(_) => {}
             Grew::Settled => return Ok(()),
         }
@@ -84,8 +86,24 @@ fn publish_below<R: Wait>(
     }
 }
 
-/// The same as `find` for the attacker of the shards' frame, with passes that are lent.
-pub(crate) fn find_lent<R: Wait>(
+/// Whether the attacker of the frame wins the ongoing game by force within n of its moves, with the tree that says so.
+pub(crate) fn find_in(alloc: Global, game: &Game, frame: &Frame, n: u16) -> Result<Found, Memory>
+    requires sought { Finds.IsSought game.now frame.now n }
+    requires some { 0 < n }
+    requires small { n ≤ 100 }
+    ensures { IfOk result (λ f. Finds.IsFound game.now frame.now n f.won f.tree) }
+{
+    let mut tree = Tree::new(alloc, frame, game.position(), n)?;
+    grow_out(&mut tree, game.tables())?;
+    tree.prove_grown();
+    Ok(Found {
+        won: tree.is_won(),
+        tree,
+    })
+}
+
+// The same as `find` for the attacker of the shards' frame, with passes that are lent.
+fn find_lent<R: Wait>(
     rt: &R,
     alloc: Global,
     game: &Game,
@@ -100,15 +118,10 @@ pub(crate) fn find_lent<R: Wait>(
     ensures handed { AreHandedBack shards.now passes.old passes.new }
     ensures found { IfOk result (λ f. Finds.IsFound game.now shards.now.frame n f.won f.tree) }
 {
-    let mut tree = Tree::new(alloc, shards.frame(), game.position(), n)?;
-    grow_out(&mut tree, game.tables())?;
-    tree.prove_grown();
+    let found = find_in(alloc, game, shards.frame(), n)?;
     let board = Board::new(game.tables(), game.position());
-    publish_below(rt, &tree, shards, passes, 0, &board);
-    Ok(Found {
-        won: tree.is_won(),
-        tree,
-    })
+    publish_below(rt, &found.tree, shards, passes, 0, &board);
+    Ok(found)
 }
 
 /// Whether the side wins the ongoing game by force within n of its moves, n from 1 to 100, with the tree that says so.

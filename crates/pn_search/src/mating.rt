@@ -6,25 +6,19 @@ ghost use Rattle.forced_wins.specs.Wins.{IsInLimit};
 ghost use Rattle.game_play.specs.Played.{story};
 ghost use Rattle.mate_search.specs.Least.{least};
 ghost use Rattle.mate_search.specs.Solves.{IsFrameFor};
-ghost use Rattle.mate_shards.specs.Views.{ArePassesOf};
 ghost use Rattle.pn_search.specs.MateCount.{mate_count};
 
 use crate::fault::PnFault;
-use crate::finding::find_lent;
+use crate::finding::find_in;
 use game_play::Game;
+use mate_core::Frame;
 use mate_search::{frame_of, is_counted};
-use mate_shards::{Passes, Shards};
 use rules_model::{Memory, Outcome};
 use std::alloc::Global;
 use std::sync::Wait;
 
-/// How many shards hold what is known of a game, and how many facts each may hold.
-const SHARDS: u32 = 16;
-
-const FACTS: u32 = 4096;
-
 // The least number of moves from 1 to n within which the side that is to move wins the ongoing game.
-fn least_won<R: Wait>(rt: &R, alloc: Global, game: &Game, n: u16) -> Result<Option<u16>, Memory>
+fn least_won(alloc: Global, game: &Game, n: u16) -> Result<Option<u16>, Memory>
     requires some { 0 < n }
     requires small { n ≤ 100 }
     requires ongoing { Games.result game.now.rules (story game.now) ≡ Ongoing }
@@ -33,21 +27,12 @@ fn least_won<R: Wait>(rt: &R, alloc: Global, game: &Game, n: u16) -> Result<Opti
 {
     let attacker = game.position().side;
     let frame = frame_of(alloc, game, attacker)?;
-    let (shards, passes) = Shards::new(alloc, frame, SHARDS, FACTS)?;
-    least_over(rt, alloc, game, n, &shards, passes)
+    least_in(alloc, game, n, &frame)
 }
 
-// The same over shards for the side that is to move. What becomes known within a number is left in them.
-fn least_over<R: Wait>(
-    rt: &R,
-    alloc: Global,
-    game: &Game,
-    n: u16,
-    shards: &Shards,
-    mut passes: Passes,
-) -> Result<Option<u16>, Memory>
-    requires frame { IsFrameFor game.now (story game.now).last.side shards.now.frame }
-    requires passes { ArePassesOf shards.now passes }
+// The same in the frame of the side that is to move.
+fn least_in(alloc: Global, game: &Game, n: u16, frame: &Frame) -> Result<Option<u16>, Memory>
+    requires frame { IsFrameFor game.now (story game.now).last.side frame.now }
     requires some { 0 < n }
     requires small { n ≤ 100 }
     requires ongoing { Games.result game.now.rules (story game.now) ≡ Ongoing }
@@ -55,7 +40,7 @@ fn least_over<R: Wait>(
     ensures { IfOk result (λ k. k ≡ least game.now.rules n (story game.now)) }
 {
     for k in 1..n + 1 {
-        let found = find_lent(rt, alloc, game, k, shards, &mut passes)?;
+        let found = find_in(alloc, game, frame, k)?;
         if found.won {
             return Ok(Some(k));
         }
@@ -70,7 +55,7 @@ fn least_over<R: Wait>(
 ///
 /// `Memory` where there is none, or where a tree has as many nodes as have numbers of 32 bits.
 pub fn least_mate<R: Wait>(
-    rt: &R,
+    _rt: &R,
     alloc: Global,
     game: &Game,
     n: u16,
@@ -85,6 +70,6 @@ pub fn least_mate<R: Wait>(
     if is_counted(game.rules(), n, game.position()) {
         return Ok(Err(PnFault::NearCount));
     }
-    let least = least_won(rt, alloc, game, n)?;
+    let least = least_won(alloc, game, n)?;
     Ok(Ok(least))
 }

@@ -1,5 +1,5 @@
 //! Proof and disproof numbers.
-ghost use Rattle.std.specs.Prelude.{◌≡◌, map};
+ghost use Rattle.std.specs.Prelude.{◌≡◌, map, not};
 ghost use Rattle.pn_search.specs.Numbers as Numbers;
 ghost use Rattle.pn_search.specs.Trees as Trees;
 
@@ -24,7 +24,7 @@ pub(crate) const OPEN: Pair = Pair {
 fn plus(a: u32, b: u32) -> u32
     ensures { result ≡ Numbers.plus a b }
 {
-    if a == INFINITE || b == INFINITE {
+    if a.max(b) == INFINITE {
         INFINITE
     } else {
         a.saturating_add(b).min(INFINITE - 1)
@@ -54,24 +54,18 @@ fn pair_with(attacking: bool, own: u32, others: u32) -> Pair
     }
 }
 
-fn least(attacking: bool, children: &[Pair]) -> u32
-    ensures { result ≡ Numbers.least_of (map (Numbers.own_number attacking) children.now) }
+// The least of the numbers that the side to move wants small, and the sum of the others.
+fn least_and_sum(attacking: bool, children: &[Pair]) -> (u32, u32)
+    ensures least { result.0 ≡ Numbers.least_of (map (Numbers.own_number attacking) children.now) }
+    ensures sum { result.1 ≡ Numbers.sum_of (map (Numbers.own_number (not attacking)) children.now) }
 {
     let mut least = INFINITE;
-    for child in children {
-        least = least.min(own_number(attacking, child));
-    }
-    least
-}
-
-fn sum(attacking: bool, children: &[Pair]) -> u32
-    ensures { result ≡ Numbers.sum_of (map (Numbers.own_number attacking) children.now) }
-{
     let mut sum = 0;
     for child in children {
-        sum = plus(sum, own_number(attacking, child));
+        least = least.min(own_number(attacking, child));
+        sum = plus(sum, own_number(!attacking, child));
     }
-    sum
+    (least, sum)
 }
 
 /// The pair of a node with children.
@@ -79,11 +73,8 @@ fn sum(attacking: bool, children: &[Pair]) -> u32
 pub(crate) fn inner_pair(attacking: bool, children: &[Pair]) -> Pair
     ensures { result ≡ Numbers.inner_pair attacking children.now }
 {
-    pair_with(
-        attacking,
-        least(attacking, children),
-        sum(!attacking, children),
-    )
+    let (least, sum) = least_and_sum(attacking, children);
+    pair_with(attacking, least, sum)
 }
 
 /// Whether one of the numbers is infinite.

@@ -1,14 +1,16 @@
 //! Proof trees.
-ghost use Rattle.std.specs.Prelude.{◌≡◌, ◌<◌, ◌≤◌, ◌+◌, ℕ, ◌==◌, IfOk, IfSome, OnErr, length, true, None};
+ghost use Rattle.std.specs.Prelude.{◌≡◌, ◌<◌, ◌≤◌, ◌+◌, ℕ, ◌==◌, IfOk, IfSome, OnOk, OnErr, Some, None, length, slice_index_or, true};
 ghost use Rattle.rules_model.specs.Repeats.{repeat_of};
 ghost use Rattle.rules_model.specs.Sound.{is_sound};
 ghost use Rattle.mate_core.specs.Claims.{fact_with};
 ghost use Rattle.mate_core.specs.Runs.{IsTrueIn};
+ghost use Rattle.pn_search.specs.declared.descending.Leaf.{Leaf};
 ghost use Rattle.pn_search.specs.Finds.{IsAt};
 ghost use Rattle.pn_search.specs.Kept as Kept;
 ghost use Rattle.pn_search.specs.Meaning.{PairDecides, root_pair};
 ghost use Rattle.pn_search.specs.Numbers as Numbers;
 ghost use Rattle.pn_search.specs.Trees as Trees;
+ghost use Rattle.pn_search.specs.Ways as Ways;
 
 use crate::carrying::carry;
 use crate::descending::{Leaf, best_child, stepped};
@@ -185,20 +187,55 @@ impl Tree {
         })
     }
 
-    // The most-proving leaf.
-    fn most_proving<'t>(&self, tables: &'t Tables) -> Leaf<'t>
+    /// The way that ends at the root.
+    pub(crate) fn root_way<'t>(&self, tables: &'t Tables) -> Result<Vec<Leaf<'t>>, Memory>
         requires tables { tables.now ≡ self.now.frame.rules }
-        ensures rules { result.board.rules ≡ self.now.frame.rules }
-        ensures place { result.place ≡ (Trees.most_proving self.now).place }
-        ensures position { result.board.position ≡ (Trees.most_proving self.now).position }
+        ensures { IfOk result (λ way. Ways.IsWay self.now way.items) }
     {
+        let mut way = Vec::new(*self.nodes.allocator());
+        way.push(Leaf {
+            place: 0,
+            board: Board::new(tables, &self.root),
+        })?;
+        Ok(way)
+    }
+
+    // Leads the way from its node at the depth on to the best child. What the way has there is kept if it is that child.
+    fn step(&self, way: &mut Vec<Leaf<'_>>, depth: usize, child: usize) -> Result<(), Memory>
+        requires way { Ways.IsWay self.now way.old.items }
+        requires within { depth < length way.old.items }
+        requires child { (d : Leaf) → Trees.best_child_at self.now.nodes (Numbers.pairs_of self.now.nodes)
+            (slice_index_or way.old.items depth d).place ≡ Some child }
+        ensures way { Ways.IsWay self.now way.new.items }
+        ensures child { OnOk result (Ways.IsAtDepth way.new.items (depth + 1) child) }
+    {
+        let next = depth + 1;
+        if next < way.len() && way[next].place == child {
+            return Ok(());
+        }
+        let board = stepped(&way[depth].board, &self.nodes[child].chosen);
+        way.truncate(next);
+        way.push(Leaf {
+            place: child,
+            board,
+        })?;
+        Ok(())
+    }
+
+    // The depth of the most-proving leaf on the way, which is led there.
+    fn most_proving(&self, way: &mut Vec<Leaf<'_>>) -> Result<usize, Memory>
+        requires way { Ways.IsWay self.now way.old.items }
+        ensures way { Ways.IsWay self.now way.new.items }
+        ensures leaf { IfOk result (λ depth. Ways.IsAtDepth way.new.items depth (Trees.most_proving self.now).place) }
+    {
+        let mut depth = 0;
         let mut place = 0;
-        let mut board = Board::new(tables, &self.root);
         while let Some(child) = best_child(self.nodes.as_slice(), self.pairs.as_slice(), place) {
-            board = stepped(board, &self.nodes[child].chosen);
+            self.step(way, depth, child)?;
+            depth += 1;
             place = child;
         }
-        Leaf { place, board }
+        Ok(depth)
     }
 
     /// Expands the most-proving leaf, unless one of the root's numbers is infinite. The numbers of the leaf are carried
@@ -218,11 +255,29 @@ impl Tree {
         ensures moves { self.new.moves ≡ self.old.moves }
         ensures err { OnErr result (self.new ≡ self.old) }
     {
+        let mut way = self.root_way(tables)?;
+        self.grow_on(&mut way)
+    }
+
+    /// The same for a caller who keeps the way to the leaf: what of it leads to the next leaf is not made again.
+    pub(crate) fn grow_on(&mut self, way: &mut Vec<Leaf<'_>>) -> Result<Grew, Memory>
+        requires way { Ways.IsWay self.old way.old.items }
+        ensures way { IfOk result (λ g. Ways.IsWay self.new way.new.items) }
+        ensures grows { IfOk result (Kept.Grows self.old self.new) }
+        ensures less { IfOk result (Kept.LeavesLess self.old self.new) }
+        ensures tree { (k : ℕ) → Trees.IsPn k self.old
+            → IfOk result (λ g. Trees.IsPn (k + Kept.expansions g) self.new) }
+        ensures frame { self.new.frame ≡ self.old.frame }
+        ensures root { self.new.root ≡ self.old.root }
+        ensures moves { self.new.moves ≡ self.old.moves }
+        ensures err { OnErr result (self.new ≡ self.old) }
+    {
         if self.is_settled() {
             return Ok(Grew::Settled);
         }
-        let leaf = self.most_proving(tables);
-        expand(&self.frame, &leaf, &mut self.nodes, &mut self.pairs)?;
+        let depth = self.most_proving(way)?;
+        let leaf = &way[depth];
+        expand(&self.frame, leaf, &mut self.nodes, &mut self.pairs)?;
         carry(self.nodes.as_slice(), self.pairs.as_mut_slice(), leaf.place);
         Ok(Grew::Expanded(leaf.place as u64))
     }

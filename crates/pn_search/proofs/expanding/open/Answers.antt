@@ -14,5 +14,5 @@ returns-clause-nodes c =
     let first : c.len-first.result ≡ length old = (let a = c.len-first.ensures in let ok = c.args.nodes.now.ok in omega arith) in
     λ v h. opened-is old c.push_children.new.nodes.items place v c.index-node.result.now c.index_mut.result.now (legal_in c.args.leaf.now.board) c.len-first.result c.len-count.result
     h c.index-node.ensures
-    (c.in_default.ensures.nodes ∙ ap (λ ms. old ++ map (written_child place c.index-node.result.now) ms) moves)
+    (c.in_ok-push_children.ensures.nodes ∙ ap (λ ms. old ++ map (written_child place c.index-node.result.now) ms) moves)
     c.index_mut.ensures.value first count

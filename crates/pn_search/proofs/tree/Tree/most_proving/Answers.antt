@@ -1,14 +1,11 @@
-use Rattle.std.proofs.Common.{◌≡◌, ℕ, ◌-◌, ◌<◌, length, Some, None, ap, sym, ◌∙◌, subst, arith}
-use Rattle.foundation.specs.Member.{Member}
-use Rattle.rules_model.specs.declared.rules.Rules.{Rules}
-use Rattle.rules_model.specs.Legal.{legal}
-use Rattle.rules_model.specs.Repeats.{repeat_of}
-use Rattle.legality.specs.Stance.{Stance}
+use Rattle.std.proofs.Common.{◌≡◌, ◌<◌, ◌-◌, ℕ, length, Some, None, ap, ◌∙◌, subst, sym, arith}
 use Rattle.pn_search.specs.Shapes.{AreInPlace}
 use Rattle.pn_search.specs.Numbers.{pairs_of}
-use Rattle.pn_search.specs.Trees.{ProofTree, Spot, HasGrown, chosen_at, position_after}
-use Rattle.pn_search.proofs.Grown.{GoesDown, down-root, down-placed, down-legal, down-deeper, down-child, down-end, index-chosen, best-read}
+use Rattle.pn_search.specs.Trees.{Spot, HasGrown, best_child_at, position_of}
+use Rattle.pn_search.specs.Ways.{IsAtDepth}
+use Rattle.pn_search.proofs.Grown.{down-placed, down-within, down-deeper, down-end, best-read}
 use Rattle.pn_search.proofs.KeptLemmas.{nodes-are, pairs-are, pairs-long}
+use Rattle.pn_search.proofs.WayLaws.{down-start, down-more}
 use Rattle.pn_search.proofs.tree.Tree.most_proving.Goals as goal
 
 less : (n i j : ℕ) → i < j → j < n → n - j < n - i
@@ -17,12 +14,19 @@ less n i j h k = omega arith
 pub loop-child-init : goal.loop-child-init
 loop-child-init c =
     let t = c.args.self.now in
-    let root = down-root t (subst HasGrown c.self.view_is c.self.invariant.prove_grown) in
-    let position : c.new-board.result.position ≡ t.root = ap (λ (s : Stance). s.position) c.new-board.ensures ∙ ap (λ (u : ProofTree). u.root) c.self.view_is in
     record {
-      rules = ap (λ (s : Stance). s.rules) c.new-board.ensures ∙ c.requires.tables;
-      down = subst (GoesDown t 0) (sym position) root;
+      way = c.requires.way;
+      here = record { within = c.requires.way.some; place_is = c.requires.way.root };
+      down = down-start t (subst HasGrown c.self.view_is c.self.invariant.prove_grown);
     }
+
+pub best_child-requires-clause-within : goal.best_child-requires-clause-within
+best_child-requires-clause-within c =
+    let t = c.args.self.now in
+    let nodes : c.as_slice.result.now ≡ t.nodes = c.as_slice.ensures.value ∙ nodes-are _ t c.self.view_is in
+    let low = down-within t c.loop-child.place (position_of t c.loop-child.place) c.loop-child.invariant.down in
+    let long = ap length nodes in
+    omega arith
 
 pub best_child-requires-clause-len : goal.best_child-requires-clause-len
 best_child-requires-clause-len c =
@@ -34,19 +38,15 @@ pub best_child-requires-clause-placed : goal.best_child-requires-clause-placed
 best_child-requires-clause-placed c =
     let t = c.args.self.now in
     let nodes : c.as_slice.result.now ≡ t.nodes = c.as_slice.ensures.value ∙ nodes-are _ t c.self.view_is in
-    subst AreInPlace (sym nodes) (down-placed t c.loop-child.place c.loop-child.board.position c.loop-child.invariant.down)
+    subst AreInPlace (sym nodes) (down-placed t c.loop-child.place (position_of t c.loop-child.place) c.loop-child.invariant.down)
 
-pub stepped-board-requires : goal.stepped-board-requires
-stepped-board-requires c =
+pub step-requires-clause-child : goal.step-requires-clause-child
+step-requires-clause-child c =
     let t = c.args.self.now in
     let nodes : c.as_slice.result.now ≡ t.nodes = c.as_slice.ensures.value ∙ nodes-are _ t c.self.view_is in
     let pairs : c.as_slice-in-loop-child.result.now ≡ pairs_of t.nodes = c.as_slice-in-loop-child.ensures.value ∙ pairs-are _ t _ c.self.view_is c.self.invariant.pairs in
     let best = best-read t c.as_slice.result.now c.as_slice-in-loop-child.result.now c.loop-child.place (Some c.in-Some.child) nodes pairs c.in-Some.ensures.child in
-    let p = c.loop-child.board.position in
-    let down = c.loop-child.invariant.down in
-    let deeper = down-deeper t c.loop-child.place p down c.in-Some.child best in
-    let chosen = index-chosen c.self.inside.nodes.items t.nodes c.in-Some.child c.index.result.now (nodes-are _ t c.self.view_is) deeper.1 c.index.ensures in
-    λ m e. subst (λ (x : Rules). Member m (legal x (repeat_of p))) (sym c.loop-child.invariant.rules) (down-legal t c.loop-child.place p down c.in-Some.child m best (sym chosen ∙ e))
+    λ d. ap (λ k. best_child_at t.nodes (pairs_of t.nodes) k) (c.loop-child.invariant.here.place_is d) ∙ best
 
 pub loop-child-preserved : goal.loop-child-preserved
 loop-child-preserved c =
@@ -54,14 +54,11 @@ loop-child-preserved c =
     let nodes : c.as_slice.result.now ≡ t.nodes = c.as_slice.ensures.value ∙ nodes-are _ t c.self.view_is in
     let pairs : c.as_slice-in-loop-child.result.now ≡ pairs_of t.nodes = c.as_slice-in-loop-child.ensures.value ∙ pairs-are _ t _ c.self.view_is c.self.invariant.pairs in
     let best = best-read t c.as_slice.result.now c.as_slice-in-loop-child.result.now c.loop-child.place (Some c.in-Some.child) nodes pairs c.in-Some.ensures.child in
-    let p = c.loop-child.board.position in
-    let down = c.loop-child.invariant.down in
-    let deeper = down-deeper t c.loop-child.place p down c.in-Some.child best in
-    let chosen = index-chosen c.self.inside.nodes.items t.nodes c.in-Some.child c.index.result.now (nodes-are _ t c.self.view_is) deeper.1 c.index.ensures in
-    let rules = c.loop-child.invariant.rules in
-    let there : c.stepped-board.result.position ≡ position_after t.frame.rules p (chosen_at t.nodes c.in-Some.child) =
-    c.stepped-board.ensures.position ∙ ap (λ (x : Rules). position_after x p c.index.result.now.chosen) rules ∙ ap (position_after t.frame.rules p) chosen in
-    record { rules = c.stepped-board.ensures.rules ∙ rules; down = down-child t c.loop-child.place p down c.in-Some.child c.stepped-board.result.position best there }
+    record {
+      way = c.step.ensures.way;
+      here = c.in_ok-step.ensures.child;
+      down = down-more t c.loop-child.place c.in-Some.child c.loop-child.invariant.down best;
+    }
 
 pub loop-child-smaller : goal.loop-child-smaller
 loop-child-smaller c =
@@ -69,23 +66,16 @@ loop-child-smaller c =
     let nodes : c.as_slice.result.now ≡ t.nodes = c.as_slice.ensures.value ∙ nodes-are _ t c.self.view_is in
     let pairs : c.as_slice-in-loop-child.result.now ≡ pairs_of t.nodes = c.as_slice-in-loop-child.ensures.value ∙ pairs-are _ t _ c.self.view_is c.self.invariant.pairs in
     let best = best-read t c.as_slice.result.now c.as_slice-in-loop-child.result.now c.loop-child.place (Some c.in-Some.child) nodes pairs c.in-Some.ensures.child in
-    let deeper = down-deeper t c.loop-child.place c.loop-child.board.position c.loop-child.invariant.down c.in-Some.child best in
+    let deeper = down-deeper t c.loop-child.place (position_of t c.loop-child.place) c.loop-child.invariant.down c.in-Some.child best in
     let down : c.loop-child.place < c.in-Some.child = deeper.0 in
     let within : c.in-Some.child < length c.args.self.now.nodes = deeper.1 in
     less (length c.args.self.now.nodes) c.loop-child.place c.in-Some.child down within
 
-pub returns-clause-place : goal.returns-clause-place
-returns-clause-place c =
+pub returns-clause-leaf : goal.returns-clause-leaf
+returns-clause-leaf c =
     let t = c.args.self.now in
     let nodes : c.as_slice.result.now ≡ t.nodes = c.as_slice.ensures.value ∙ nodes-are _ t c.self.view_is in
     let pairs : c.as_slice-in-loop-child.result.now ≡ pairs_of t.nodes = c.as_slice-in-loop-child.ensures.value ∙ pairs-are _ t _ c.self.view_is c.self.invariant.pairs in
     let best = best-read t c.as_slice.result.now c.as_slice-in-loop-child.result.now c.loop-child.place None nodes pairs c.in_default.ensures.child in
-    ap (λ (s : Spot). s.place) (down-end t c.loop-child.place c.loop-child.board.position c.loop-child.invariant.down best)
-
-pub returns-clause-position : goal.returns-clause-position
-returns-clause-position c =
-    let t = c.args.self.now in
-    let nodes : c.as_slice.result.now ≡ t.nodes = c.as_slice.ensures.value ∙ nodes-are _ t c.self.view_is in
-    let pairs : c.as_slice-in-loop-child.result.now ≡ pairs_of t.nodes = c.as_slice-in-loop-child.ensures.value ∙ pairs-are _ t _ c.self.view_is c.self.invariant.pairs in
-    let best = best-read t c.as_slice.result.now c.as_slice-in-loop-child.result.now c.loop-child.place None nodes pairs c.in_default.ensures.child in
-    ap (λ (s : Spot). s.position) (down-end t c.loop-child.place c.loop-child.board.position c.loop-child.invariant.down best)
+    let leaf = ap (λ (s : Spot). s.place) (down-end t c.loop-child.place (position_of t c.loop-child.place) c.loop-child.invariant.down best) in
+    subst (IsAtDepth c.loop-child.way.items c.loop-child.depth) leaf c.loop-child.invariant.here
