@@ -99,7 +99,7 @@ module _ (t : ProofTree) (place : ℕ) (p : Position) (g : GoesDown t place p) w
   pub down-within : place < length t.nodes
   down-within = g.on.within
 
-  down-below : (i : ℕ) → best_child_at t.nodes (pairs_of t.nodes) place ≡ Some i → IsBelow t.frame t.root t.moves t.nodes g.rooted (record { place = place; position = p }) i
+  pub down-below : (i : ℕ) → best_child_at t.nodes (pairs_of t.nodes) place ≡ Some i → IsBelow t.frame t.root t.moves t.nodes g.rooted (record { place = place; position = p }) i
   down-below i e = child_on t.frame t.root t.moves t.nodes g.rooted (pairs_of t.nodes) (record { place = place; position = p }) g.on i e
 
   pub down-deeper : (i : ℕ) → best_child_at t.nodes (pairs_of t.nodes) place ≡ Some i → (place < i) × (i < length t.nodes)
