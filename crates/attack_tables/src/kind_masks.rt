@@ -11,8 +11,8 @@ use rules_model::Side;
 use square_set::{EMPTY, Set};
 use std::alloc::Global;
 
-/// Whether a piece of the kind may take from the one square on the other: where the answer is no it never does. A square
-/// above 119 is not asked.
+/// Whether a piece of the kind may take from the one square on the other: where the answer is no it never does. A
+/// square above 119 is not asked.
 fn may_take(moves: &MoveTables, side: Side, kind: u8, from: u8, at: u8) -> bool
     requires kind { kind < 26 }
     requires at { at < 120 }

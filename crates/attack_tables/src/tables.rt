@@ -229,8 +229,8 @@ impl Tables {
         self.reached(p, occupied(&p.cells), from, mode)
     }
 
-    /// Whether the square is one of those that `reaches` answers, by the occupied squares, which the caller has. No memory
-    /// is taken.
+    /// Whether the square is one of those that `reaches` answers, by the occupied squares, which the caller has. No
+    /// memory is taken.
     pub fn reaches_square(
         &self,
         p: &Position,

@@ -30,8 +30,8 @@ use Rattle.check_moves.specs.declared.flights.LoneKing.{LoneKing}
 use Rattle.check_moves.specs.Checks.{ComesTo}
 use Rattle.check_moves.specs.Shut.{AreShut}
 
--- no rule asks more of a quiet move of a piece but a pawn, of a king's step and of a leap, than that it is a move of its
--- kind and no castle, after which no king of its side is attacked
+-- no rule asks more of a quiet move of a piece but a pawn, of a king's step and of a leap, than that it is a move of
+-- its kind and no castle, after which no king of its side is attacked
 unfoldable pub are_steps_plain : Rules → Bool
 are_steps_plain rules =
     rules.checking && not rules.flying && not rules.must_capture && not rules.immobile_bad

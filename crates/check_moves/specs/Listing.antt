@@ -25,7 +25,7 @@ AreTakers rules by kind kings takers =
 abbrev pub TakesNone : Rules → Side → ℕ → Set → ℕ → Type 0
 TakesNone rules by kind kings from = (king : ℕ) → has kings king ≡ true → NeverTakes rules by kind from king
 
--- the set has no other square
+-- the square is on the board, and the set has no other
 abbrev pub IsOnlyOf : Set → ℕ → Type 0
 IsOnlyOf squares at = (at < 120) × ((s : ℕ) → has squares s ≡ true → s ≡ at)
 
@@ -72,8 +72,8 @@ pub record IsAskedOf (s : Stance) (checks : Checks) (step : Option Flight) (aske
   pub kinds : (kind : ℕ) → kind < 26 → (d : Set) → (to : ℕ) → to < 120
       → has (slice_index_or asked.to kind d) to ≡ false → ComesInVain s checks step kind to
 
--- the move may mate, or win as the last check: it gives check, and where checks are not counted leaves no legal reply that
--- is known
+-- the move may mate, or win as the last check: it gives check, and where checks are not counted leaves no legal reply
+-- that is known
 pub record MayMate (s : Stance) (m : Move) : Type 0 where
   pub checks : gives_check s.rules (repeat_in s) m ≡ true
   pub unmet : s.rules.check_counting ≡ false → IsMet s m → ⊥

@@ -25,8 +25,8 @@ use Rattle.check_moves.specs.Checks.{ComesTo}
 use Rattle.check_moves.specs.Flights.{are_steps_plain, repeat_after}
 use Rattle.check_moves.specs.Shut.{AreShut}
 
--- a piece of the kind stands there, of the side that is not to move, neither a king nor a pawn; and the rules ask no more
--- of its quiet moves than that no king of its side is attacked after them
+-- a piece of the kind stands there, of the side that is not to move, neither a king nor a pawn; and the rules ask no
+-- more of its quiet moves than that no king of its side is attacked after them
 pub record IsLeaper (s : Stance) (leaper : Leaper) : Type 0 where
   pub small : leaper.from < 120
   pub letter : leaper.kind.0 < 26

@@ -42,8 +42,8 @@ pub struct Flight {
     pub target: Set,
     /// The occupied squares once the king has stepped there.
     pub stepped: Set,
-    /// Squares that open no line to the target then: no piece that leaves one uncovers an attack on it, and none that is
-    /// dropped on one does.
+    /// Squares that open no line to the target then: no piece that leaves one uncovers an attack on it, and none that
+    /// is dropped on one does.
     pub shut: Set,
 }
 
@@ -58,8 +58,8 @@ pub struct KnownFlights {
     pub found: [Option<Flight>; FLIGHTS],
 }
 
-/// Whether a quiet move of a piece but a pawn is legal wherever it is a move of its kind, no castle, after which no king of
-/// its side is attacked.
+/// Whether a quiet move of a piece but a pawn is legal wherever it is a move of its kind, no castle, after which no
+/// king of its side is attacked.
 #[tactic(auto, unfolding(crate::specs::Flights::are_steps_plain))]
 pub(crate) fn are_steps_plain(rules: &Rules) -> bool
     ensures { result ≡ Spec.are_steps_plain rules.now }
@@ -255,8 +255,8 @@ fn go_leaves(board: &Board, flight: &Flight, from: Square, to: Square, promo: Pr
     }
 }
 
-/// Whether it is known that the king may take the step once the move is made, if the game goes on then. Of castles, gates
-/// and what goes to the square of en passant it is not known.
+/// Whether it is known that the king may take the step once the move is made, if the game goes on then. Of castles,
+/// gates and what goes to the square of en passant it is not known.
 fn leaves_step(board: &Board, flight: &Flight, m: &Move) -> bool
     requires move_fits { IsFitMove m.now }
     requires flight { Spec.IsFlight board.now flight.now }
@@ -347,8 +347,8 @@ impl KnownFlights {
         self.found[place]
     }
 
-    /// Whether a step is kept at the place of which it is known that it is legal once the move is made, if the game goes on
-    /// then.
+    /// Whether a step is kept at the place of which it is known that it is legal once the move is made, if the game
+    /// goes on then.
     fn is_left_at(&self, board: &Board, place: usize, m: &Move) -> bool
         requires place { place < 8 }
         requires move_fits { IsFitMove m.now }

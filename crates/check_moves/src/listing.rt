@@ -44,8 +44,8 @@ fn only_of(squares: Set) -> Option<u8>
     Some(at)
 }
 
-/// The same as `takers_of_kings`, where `only` is the square of the only king, if there is one king. It is looked for once
-/// for all kinds.
+/// The same as `takers_of_kings`, where `only` is the square of the only king, if there is one king. It is looked for
+/// once for all kinds.
 fn takers_by(tables: &Tables, by: Side, kind: Kind, kings: Set, only: Option<u8>) -> Set
     requires kind { kind.0 < 26 }
     requires kings { OnSquares kings }
@@ -161,7 +161,8 @@ fn ask(board: &Board, checks: &Checks, step: &Option<Flight>, asked: &mut Asked)
     }
 }
 
-/// A piece that goes from one square to another makes a set of the occupied ones. Nothing is done: the call tells a proof.
+/// A piece that goes from one square to another makes a set of the occupied ones. Nothing is done: the call tells a
+/// proof.
 pub(crate) fn prove_moved(occupied: Set)
     ensures { Spec.MakesSets occupied }
 {

@@ -37,8 +37,8 @@ pub struct Reply {
     pub kings: Set,
     /// The occupied squares once it has leapt.
     pub stepped: Set,
-    /// Squares that open no line to one of those kings then: no piece that leaves one uncovers a check, and none that is
-    /// dropped on one does.
+    /// Squares that open no line to one of those kings then: no piece that leaves one uncovers a check, and none that
+    /// is dropped on one does.
     pub shut: Set,
 }
 
@@ -183,8 +183,8 @@ fn going(board: &Board, from: Square, to: Square, promo: Promo) -> Option<Coming
     }
 }
 
-/// The piece that comes to a square by the move, where this changes no other square but the one that it leaves. Castles,
-/// gates and what goes to the square of en passant are not looked into.
+/// The piece that comes to a square by the move, where this changes no other square but the one that it leaves.
+/// Castles, gates and what goes to the square of en passant are not looked into.
 fn coming_of(board: &Board, m: &Move) -> Option<Coming>
     requires move_fits { IsFitMove m.now }
     ensures { IfSome result (Spec.IsComing board.now m.now) }

@@ -11,8 +11,8 @@ use board_sets::BoardSets;
 use rules_model::{KINDS, Kind, Move, Position, Promo, Square};
 use square_set::{EMPTY, Set, Shift};
 
-/// Which moves are asked for: of those that leave a square of `shut`, or are dropped on one, and place nothing there, only
-/// those to the squares of their kind, a pawn's promotion to those of its new kind; castles and all other moves.
+/// Which moves are asked for: of those that leave a square of `shut`, or are dropped on one, and place nothing there,
+/// only those to the squares of their kind, a pawn's promotion to those of its new kind; castles and all other moves.
 #[derive(Clone, Copy)]
 pub struct Asked {
     /// Squares from which not all moves are asked for.

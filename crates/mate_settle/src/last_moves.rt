@@ -94,8 +94,8 @@ pub(crate) fn winning_checks(frame: &Frame, board: &Board) -> Option<Checks>
     }
 }
 
-/// Whether the attacker's move leaves the king a step, so that it is no mate. Where checks are counted it is not asked: the
-/// last of them wins without a mate.
+/// Whether the attacker's move leaves the king a step, so that it is no mate. Where checks are counted it is not asked:
+/// the last of them wins without a mate.
 fn leaves_step(frame: &Frame, board: &Board, m: &Move, flights: &mut KnownFlights) -> bool
     requires rules { board.now.rules ≡ frame.now.rules }
     requires only { Last.only_checks_win frame.now.rules ≡ true }

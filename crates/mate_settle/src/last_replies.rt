@@ -89,7 +89,8 @@ fn by_one_move(
     }
 }
 
-/// Whether the attacker, who is to move, wins by one move; or `Memory`. It makes no fact, which costs as much as a list.
+/// Whether the attacker, who is to move, wins by one move; or `Memory`. It makes no fact, which costs as much as a
+/// list.
 fn wins_by_one(
     alloc: Global,
     frame: &Frame,
@@ -205,8 +206,8 @@ fn settled_last(alloc: Global, board: &Board, facts: &mut FactTable) -> Result<F
     Ok(found)
 }
 
-/// What is known of a position before its moves are listed: by a kept fact; or, where the attacker has one move left, by
-/// that move, or by a reply that refuted lately. Or `Memory`.
+/// What is known of a position before its moves are listed: by a kept fact; or, where the attacker has one move left,
+/// by that move, or by a reply that refuted lately. Or `Memory`.
 pub(crate) fn known_before(
     alloc: Global,
     board: &Board,

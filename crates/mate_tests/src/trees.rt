@@ -169,8 +169,8 @@ fn found_wins_are_published(rt: HostRuntime) {
 }
 
 /// Asserts within how many moves White, who is to move, mates; or which fault there is.
-fn mates_within<R: Abort + Wait>(
-    rt: &R,
+fn mates_within(
+    rt: &impl Abort,
     alloc: Global,
     p: &Position,
     n: u16,
@@ -178,7 +178,7 @@ fn mates_within<R: Abort + Wait>(
 ) {
     assert!(rt; 0 < n && n <= 100);
     let game = game_from(rt, alloc, p);
-    let found = least_mate(rt, alloc, &game, n).expect(rt, "no fault");
+    let found = least_mate(alloc, &game, n).expect(rt, "no fault");
     expect_eq(rt, found, wanted);
 }
 

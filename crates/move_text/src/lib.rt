@@ -1,5 +1,5 @@
-//! Moves as text, in the long algebraic notation of the UCI protocol with Fairy-Stockfish's drops and gates: the text of
-//! a move, the order of the texts, and the move that a text names in a position.
+//! Moves as text, in the long algebraic notation of the UCI protocol with Fairy-Stockfish's drops and gates: the text
+//! of a move, the order of the texts, and the move that a text names in a position.
 #![tactic(auto)]
 
 mod castles;

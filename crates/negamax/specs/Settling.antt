@@ -12,8 +12,8 @@ use Rattle.evaluation.specs.Values.{play, quiet}
 use Rattle.game_line.specs.Lined.{EndsByStuckAlone, Lined, stance_of_line, story_of_line}
 use Rattle.negamax.specs.declared.settling.Settling.{Settling}
 
--- a move ends the game only where it leaves no legal move, and the steps and the leaps that were looked for are those of
--- the position
+-- a move ends the game only where it leaves no legal move, and the steps and the leaps that were looked for are those
+-- of the position
 pub record AreKnown (l : Lined) (flights : KnownFlights) (replies : Option Replies) : Type 0 where
   pub ends : EndsByStuckAlone l
   pub steps : AreFlights (stance_of_line l) flights

@@ -65,7 +65,7 @@ fn searched_text<'a, R: Threads + Wait + Sync, S: Source, G: Gate + Sync>(
             plies,
         } => generate(rt, alloc, sections, name, number, plies),
         Command::Suite => suite_text(rt, alloc, sections, source, threads, gate),
-        Command::PnMate(moves) => pn_mate_text(rt, alloc, moves, sections, source),
+        Command::PnMate(moves) => pn_mate_text(alloc, moves, sections, source),
         Command::Keys(moves) => keys_text(rt, alloc, moves, sections, source),
         Command::Uci
         | Command::Xboard

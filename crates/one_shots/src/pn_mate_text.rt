@@ -13,7 +13,6 @@ use io_ports::Source;
 use one_shot_checks::{Fault, NoAnswer};
 use pn_search::{PnFault, least_mate};
 use std::alloc::{AllocError, Global};
-use std::sync::Wait;
 use variant_ini::Sections;
 
 // A number of moves, or that there is none.
@@ -40,8 +39,7 @@ fn print(alloc: Global, count: Result<Option<u16>, PnFault>) -> Result<Text, NoA
 
 /// The text of `pnmate N`: within how many moves, up to N, the side that is to move wins the game of the input, which
 /// is of a variant of these sections.
-pub fn pn_mate_text<R: Wait, S: Source>(
-    rt: &R,
+pub fn pn_mate_text<S: Source>(
     alloc: Global,
     moves: u16,
     sections: &Sections,
@@ -54,6 +52,6 @@ pub fn pn_mate_text<R: Wait, S: Source>(
     ensures cause { HasCause (S.faults source.old) (S.faults source.new) (IsUnheard result) }
 {
     let game = game_in(alloc, sections, source)?;
-    let count = least_mate(rt, alloc, &game, moves)?;
+    let count = least_mate(alloc, &game, moves)?;
     print(alloc, count)
 }

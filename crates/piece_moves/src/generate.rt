@@ -187,8 +187,8 @@ fn push_own<S: MoveSink>(
     }
 }
 
-/// Gives the ordinary moves of the own pieces on these squares that are not the pawn, without a gate, each once and in no
-/// special order. Where the sink is full, it was given some of them, each at most once.
+/// Gives the ordinary moves of the own pieces on these squares that are not the pawn, without a gate, each once and in
+/// no special order. Where the sink is full, it was given some of them, each at most once.
 pub fn push_moves_from<S: MoveSink>(
     tables: &Tables,
     p: &Position,

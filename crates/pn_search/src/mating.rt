@@ -15,7 +15,6 @@ use mate_core::Frame;
 use mate_search::{frame_of, is_counted};
 use rules_model::{Memory, Outcome};
 use std::alloc::Global;
-use std::sync::Wait;
 
 // The least number of moves from 1 to n within which the side that is to move wins the ongoing game.
 fn least_won(alloc: Global, game: &Game, n: u16) -> Result<Option<u16>, Memory>
@@ -54,8 +53,7 @@ fn least_in(alloc: Global, game: &Game, n: u16, frame: &Frame) -> Result<Option<
 /// # Errors
 ///
 /// `Memory` where there is none, or where a tree has as many nodes as have numbers of 32 bits.
-pub fn least_mate<R: Wait>(
-    _rt: &R,
+pub fn least_mate(
     alloc: Global,
     game: &Game,
     n: u16,

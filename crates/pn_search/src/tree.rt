@@ -200,7 +200,8 @@ impl Tree {
         Ok(way)
     }
 
-    // Leads the way from its node at the depth on to the best child. What the way has there is kept if it is that child.
+    // Leads the way from its node at the depth on to the best child. What the way has there is kept if it is that
+    // child.
     fn step(&self, way: &mut Vec<Leaf<'_>>, depth: usize, child: usize) -> Result<(), Memory>
         requires way { Ways.IsWay self.now way.old.items }
         requires within { depth < length way.old.items }

@@ -52,8 +52,8 @@ fn no_text(status: u32) -> Reply
 }
 
 /// What the program answers that is run with these words, where the file that they name has these bytes, or is missing,
-/// and the input has those. Each line of `words` is a word. The text is written to the front of `room`, if all of it has
-/// room there; if not, nothing is written.
+/// and the input has those. Each line of `words` is a word. The text is written to the front of `room`, if all of it
+/// has room there; if not, nothing is written.
 #[unsafe(no_mangle)]
 pub extern "C" fn vengine_answer(
     alloc: Global,

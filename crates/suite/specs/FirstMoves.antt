@@ -34,8 +34,8 @@ keys_among rules n g ms = flat_map (λ m. key_by m (moves_by rules n g m)) ms
 abbrev pub most_plies : ℕ
 most_plies = MOST_PLIES - 2
 
--- why a game is not asked: it is not ongoing, or else the move-count rule could end it within n moves, or else it is too
--- long
+-- why a game is not asked: it is not ongoing, or else the move-count rule could end it within n moves, or else it is
+-- too long
 unfoldable pub fault_of : ℕ → Played → Option KeysFault
 fault_of n g =
     if not (is_ongoing (result g.rules (story g))) then Some Ended else
@@ -46,8 +46,8 @@ abbrev pub unless_fault : Option KeysFault → List Key → Result (List Key) Ke
 unless_fault None keys = Ok keys
 unless_fault (Some fault) keys = Err fault
 
--- the legal moves by which the side that is to move wins within n moves, in the order of their texts; or why the game is
--- not asked
+-- the legal moves by which the side that is to move wins within n moves, in the order of their texts; or why the game
+-- is not asked
 abbrev pub mate_keys : ℕ → Played → Result (List Key) KeysFault
 mate_keys n g = unless_fault (fault_of n g) (keys_among g.rules n (story g) (legal_in g))
 
