@@ -242,7 +242,7 @@ fn wins_once_made(
     ensures kept { facts.new ≡ facts.old }
     ensures wins { result ≡ In.near_in frame.now 0 (next frame.now.rules board.now.position m.now) }
 {
-    let next = board.after(m);
+    let next = board.asked_after(m);
     let to = target_of(m);
     if is_met_again(frame, &next, to, facts) {
         return false;

@@ -138,7 +138,7 @@ fn refutes(
     if ended.is_some() {
         return Ok(false);
     }
-    let next = board.after(&reply);
+    let next = board.asked_after(&reply);
     let won = wins_by_one(alloc, frame, &next, facts)?;
     Ok(!won)
 }

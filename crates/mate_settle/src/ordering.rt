@@ -186,7 +186,7 @@ pub(crate) fn check_rank(board: &Board, m: &Move, order: &Order) -> u32
     requires { Member m.now (legal_in board.now) }
 {
     if order.moves > 2 {
-        let next = board.after(m);
+        let next = board.asked_after(m);
         count_moves(&next)
     } else if board.captures(m) {
         CAPTURING_CHECK

@@ -16,14 +16,14 @@ use position_key::BoardKey;
 use rules_model::{Move, Position, Rules, repeats};
 use std::marker::Model;
 
-/// A sound position by the rules of the tables, with the sets of its board and its key, which are kept through moves.
-/// Contracts see the rules and the position.
+/// A sound position by the rules of the tables, with the sets of its board and, unless it is only asked a question, its
+/// key, which are kept through moves. Contracts see the rules and the position.
 #[derive(Drop)]
 pub struct Board<'t> {
     pub(crate) tables: &'t Tables,
     pub(crate) position: Position,
     pub(crate) sets: BoardSets,
-    pub(crate) key: BoardKey,
+    pub(crate) key: Option<BoardKey>,
 }
 
 impl<'t> Model for Board<'t> {
@@ -47,7 +47,7 @@ impl<'t> Board<'t> {
             tables,
             position: *p,
             sets: sets_of(tables.rules(), &p.cells, p.side),
-            key: BoardKey::of(p),
+            key: Some(BoardKey::of(p)),
         }
     }
 
@@ -59,12 +59,28 @@ impl<'t> Board<'t> {
     {
         let mut position = self.position;
         let (sets, touched) = apply_on(self.tables, &mut position, &self.sets, m);
-        let key = self.key.after(&self.position, &position, touched);
+        let key = self.board_key().after(&self.position, &position, touched);
         Board {
             tables: self.tables,
             position,
             sets,
-            key,
+            key: Some(key),
+        }
+    }
+
+    /// The same, for a position that is only asked a question: its key is not carried. Whoever asks for it all the same
+    /// has it worked out from all squares.
+    pub fn asked_after(&self, m: &Move) -> Board<'t>
+        requires { Member m.now (Stance.legal_in self.now) }
+        ensures { result ≡ Stance.after self.now m.now }
+    {
+        let mut position = self.position;
+        let (sets, _touched) = apply_on(self.tables, &mut position, &self.sets, m);
+        Board {
+            tables: self.tables,
+            position,
+            sets,
+            key: None,
         }
     }
 
@@ -115,14 +131,17 @@ impl<'t> Board<'t> {
     pub fn board_key(&self) -> BoardKey
         ensures { IsBoardKey result (Stance.repeat_in self.now) }
     {
-        self.key
+        match self.key {
+            Some(key) => key,
+            None => BoardKey::of(&self.position),
+        }
     }
 
     /// The key of all that a repetition compares.
     pub fn key(&self) -> u64
         ensures { result ≡ key_of (Stance.repeat_in self.now) }
     {
-        self.key.whole(&self.position)
+        self.board_key().whole(&self.position)
     }
 
     /// Whether it repeats the position, which has this key. The positions are looked at only where the keys agree.

@@ -57,7 +57,7 @@ pub(crate) fn stepped<'t>(board: &Board<'t>, chosen: &Option<Move>) -> Board<'t>
         Trees.position_after board.now.rules board.now.position chosen.now }
 {
     match chosen {
-        Some(m) => board.after(m),
+        Some(m) => board.asked_after(m),
         None => {
             board.prove_ready();
             Board::new(board.tables(), board.position())

@@ -11,13 +11,13 @@ is_met_again-requires-clause-turn c =
     let f = c.args.frame.now in
     let p = c.args.board.now.position in
     let m = c.args.m.now in
-    turn-after f p c.after-next.result.position m (after-is f.rules f c.args.board.now c.after-next.result m c.requires.rules c.after-next.ensures) c.requires.attack.turn
+    turn-after f p c.asked_after-next.result.position m (after-is f.rules f c.args.board.now c.asked_after-next.result m c.requires.rules c.asked_after-next.ensures) c.requires.attack.turn
 
 pub returns-then-is_met_again-clause-wins : goal.returns-then-is_met_again-clause-wins
 returns-then-is_met_again-clause-wins c =
     let f = c.args.frame.now in
     let m = c.args.m.now in
-    let is = after-is f.rules f c.args.board.now c.after-next.result m c.requires.rules c.after-next.ensures in
+    let is = after-is f.rules f c.args.board.now c.asked_after-next.result m c.requires.rules c.asked_after-next.ensures in
     sym (subst (λ (q : Position). In.near_in f 0 q ≡ false) is (OnTrue_at c.if-is_met_again.true c.is_met_again.ensures.met))
 
 pub wins_at_once-wins-requires-clause-turn : goal.wins_at_once-wins-requires-clause-turn
@@ -25,4 +25,4 @@ wins_at_once-wins-requires-clause-turn c =
     let f = c.args.frame.now in
     let p = c.args.board.now.position in
     let m = c.args.m.now in
-    turn-after f p c.after-next.result.position m (after-is f.rules f c.args.board.now c.after-next.result m c.requires.rules c.after-next.ensures) c.requires.attack.turn
+    turn-after f p c.asked_after-next.result.position m (after-is f.rules f c.args.board.now c.asked_after-next.result m c.requires.rules c.asked_after-next.ensures) c.requires.attack.turn

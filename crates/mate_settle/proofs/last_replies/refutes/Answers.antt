@@ -21,7 +21,7 @@ wins_by_one-requires-clause-turn c =
     let f = c.args.frame.now in
     let p = c.args.board.now.position in
     let m = c.args.reply in
-    turn-back f p c.after-next.result.position m (after-is f.rules f c.args.board.now c.after-next.result m c.requires.rules c.after-next.ensures) c.requires.turn
+    turn-back f p c.asked_after-next.result.position m (after-is f.rules f c.args.board.now c.asked_after-next.result m c.requires.rules c.asked_after-next.ensures) c.requires.turn
 
 pub returns-clause-refutes : goal.returns-clause-refutes
 returns-clause-refutes c =
@@ -30,6 +30,6 @@ returns-clause-refutes c =
     let is : IsRefuter f c.args.board.now c.args.reply = record {
       ongoing = search rules;
       legal = c.if-not-is_legal.ensures.member.0 refl;
-      lost = subst (λ (t : Stance). In.near_in f 1 t.position ≡ false) c.after-next.ensures (sym c.in_ok-won.ensures.won ∙ not-true c.in_ok-won.won told);
+      lost = subst (λ (t : Stance). In.near_in f 1 t.position ≡ false) c.asked_after-next.ensures (sym c.in_ok-won.ensures.won ∙ not-true c.in_ok-won.won told);
     } in
     is)
