@@ -121,7 +121,7 @@ impl ReachFacts<'_> {
         if plies == 0 && !board.gives_check(m) {
             return Ok(false);
         }
-        let next = board.asked_after(m);
+        let next = board.after(m);
         self.reaches(alloc, &next, plies)
     }
 }

@@ -16,7 +16,7 @@ by_move-returns-then-not-gives_check-clause-is t c =
 
 pub by_move-returns-clause-is : goal.by_move-returns-clause-is
 by_move-returns-clause-is t c =
-    subst (λ x. IfOk c.reaches.result (λ b. b ≡ x)) (after-reaches c.args.self.now c.args.board.now c.requires.rules c.asked_after-next.result c.args.plies c.args.m.now c.asked_after-next.ensures) c.reaches.ensures.is
+    subst (λ x. IfOk c.reaches.result (λ b. b ≡ x)) (after-reaches c.args.self.now c.args.board.now c.requires.rules c.after-next.result c.args.plies c.args.m.now c.after-next.ensures) c.reaches.ensures.is
 
 pub by_moves-by_move-requires : goal.by_moves-by_move-requires
 by_moves-by_move-requires t c = (
