@@ -34,7 +34,7 @@ reads_input Suite = true
 reads_input (PnMate moves) = true
 reads_input (Keys moves) = true
 
--- A referee answers the command: it is no session, and one thread works it out without waiting.
+-- A referee answers the command: it is no session, and none of `generate`, `suite`, `pnmate` and `keys`.
 abbrev pub is_refereed : Command → Bool
 is_refereed Uci = false
 is_refereed Xboard = false

@@ -1,4 +1,4 @@
-//! The texts of the commands that a referee answers: those that one thread works out, without waiting.
+//! The texts of the commands that a referee answers. One thread works each of them out, without waiting.
 ghost use Rattle.std.specs.Prelude.{◌≡◌, ◌≤◌, false, true};
 ghost use Rattle.io_ports.specs.Cause.{HasCause};
 ghost use Rattle.one_shots.specs.Commands.{is_refereed, lines_needed, reads_input};
@@ -131,7 +131,7 @@ fn variants(alloc: Global, sections: &Sections) -> Result<Text, NoAnswer<'static
     Ok(variants_of(alloc, sections)?)
 }
 
-/// Whether a referee answers a command: it is no session, and one thread works it out without waiting.
+/// Whether a referee answers a command: it is no session, and none of `generate`, `suite`, `pnmate` and `keys`.
 pub fn is_refereed(command: &Command) -> bool
     ensures { result ≡ is_refereed (command_seen command.now) }
 {

@@ -1,5 +1,5 @@
-//! The referee in memory: the commands of the program that one thread works out without waiting, over bytes that are
-//! given.
+//! The referee in memory: the commands of the program that a referee answers, over bytes that are given. One thread
+//! works each of them out, without waiting.
 #![tactic(auto)]
 
 mod answering;
