@@ -14,7 +14,7 @@ ghost use Rattle.cecp_front.specs.Reading.{NoReads};
 
 use crate::quits;
 use crate::session::CecpSession;
-use io_ports::{Clock, Dialect, Gate, Got, LineBuf, Ports, SearchFault, Sink, Source};
+use io_ports::{Clock, Gate, Got, LineBuf, Ports, SearchFault, Sink, Source};
 use session_model::Ended;
 use std::alloc::Global;
 use std::sync::Wait;
@@ -89,7 +89,7 @@ fn is_last(next: Got, line: &[u8]) -> bool
     }
 }
 
-// The session over ports that are lent singly.
+/// The session over ports that are lent singly.
 fn serve_lent<R, S, K, C, G>(
     rt: &R,
     alloc: Global,
@@ -155,7 +155,6 @@ where
     K: Sink,
     C: Clock,
     G: Gate + Sync,
-    requires dialect { ports.old.dialect ≡ Dialect.Cecp }
     ensures spoke { (contents : Option Contents) → OnOk result (Spoke cecp
         (Moves S.left K.taken C.given C.count C.last
         ports.entry.now.source.now ports.exit.now.source.now

@@ -58,7 +58,6 @@ where
     F: Files,
     C: Clock,
     G: Gate + Sync,
-    requires dialect { ports.now.dialect ≡ Dialect.Uci }
     requires begins { BeginsBuiltIn sections }
     requires threads { (1 ≤ threads) × (threads ≤ 64) }
     ensures talks { Talks Dialect.Uci sections threads
@@ -94,7 +93,6 @@ where
     F: Files,
     C: Clock,
     G: Gate + Sync,
-    requires dialect { ports.now.dialect ≡ Dialect.Cecp }
     requires begins { BeginsBuiltIn sections }
     requires threads { (1 ≤ threads) × (threads ≤ 64) }
     ensures talks { Talks Dialect.Cecp sections threads

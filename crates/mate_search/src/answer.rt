@@ -14,7 +14,7 @@ pub enum Mate {
     NoMate,
     /// The solve was cut.
     Stopped(Stopped),
-    /// As of `Settled`.
+    /// As `Settled::Unsettled`.
     Unsettled { repeat: Repeat, counters: Counters },
 }
 

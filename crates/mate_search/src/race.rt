@@ -51,7 +51,7 @@ impl<G> Race<'_, G> {
         }
     }
 
-    /// The root move that is to be tried first: one that wins, as far as is known.
+    /// The root move that is to be tried first: one that wins, as far as is known, else the first.
     pub fn first(&self) -> Option<Move> {
         self.roots.get(self.shared.favoured()).copied()
     }

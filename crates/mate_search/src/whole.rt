@@ -34,9 +34,9 @@ use watching::{Caller, Halt, Watch, stopped_by};
 /// blocked positions; the passes have a part for each worker. Hints change the time that it takes, and nothing else.
 ///
 /// The first worker runs in the caller, and the watch that is lent is its own: all that it hears of the outside, and
-/// what may cut it. It enters at most four times n and one times the lines of at most as many legal moves as twice n
-/// and one. The other workers settle root moves beside it, each within the quota of nodes, and publish what they find;
-/// no clause here counts their nodes.
+/// what may cut it. It enters at most `4 * (n + 1)` times the number of lines of at most `2 * n + 1` legal moves. The
+/// other workers settle root moves beside it, each within the quota of nodes, and publish what they find; no clause
+/// here counts their nodes.
 ///
 /// The passes of all workers are joined and handed back with every answer. Where the solve was not cut and the root's
 /// repeat is not blocked, its shard then has a fact that serves the root, or is full.
@@ -199,7 +199,7 @@ pub fn solve<R: Threads + Wait + Sync, S: Source, K: Sink, C: Clock, G: Gate + S
     }
 }
 
-/// The same by one worker, without ports and limits.
+/// As `solve`, by one worker, without ports and limits.
 ///
 /// # Errors
 ///

@@ -1,4 +1,4 @@
--- What an answer says.
+-- What is known of the table of a near win when it is made.
 use Rattle.std.specs.Prelude.{◌≡◌, ◌⊎◌, ◌+◌, ◌<◌, ◌≤◌, ℕ, List, map, Bool, true, false, ◌&&◌, nat_lt, nat_le, if◌then◌else◌}
 use Rattle.std.specs.List.{filter}
 use Rattle.rules_model.specs.declared.board.Position.{Position}

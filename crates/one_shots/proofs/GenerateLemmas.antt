@@ -4,7 +4,7 @@ use Rattle.std.specs.declared.result.Result.{Result}
 use Rattle.game_text.specs.Fault.{fault_text}
 use Rattle.game_text.specs.declared.fault.GameFault.TheVariants.{UnknownVariant, RefusedVariant}
 use Rattle.rules_model.specs.declared.rules.Rules.{Rules}
-use Rattle.session_model.specs.Generate.{SaysGenerate, SaysGenerated, generated, generated_text}
+use Rattle.one_shots.specs.Generate.{SaysGenerate, SaysGenerated, generated, generated_text}
 use Rattle.variant_ini.specs.Section.{Section}
 use Rattle.variant_model.specs.declared.fault.SectionFault.{SectionFault}
 use Rattle.variant_rules.specs.Entries.{entries, found}

@@ -8,7 +8,7 @@ use Rattle.rules_model.specs.declared.moves.Outcome.{Outcome}
 use Rattle.rules_model.specs.declared.moves.Outcome.TheVariants.{Ongoing, Won, Drawn}
 use Rattle.rules_model.specs.Games.{result}
 use Rattle.game_play.specs.Played.{Played, legal_in, longer, story}
-use Rattle.session_model.specs.Generate.{picked, random_game}
+use Rattle.one_shots.specs.Generate.{picked, random_game}
 
 -- the game has ended
 pub ended : (generator : Lcg) (g : Played) (o : Outcome) → result g.rules (story g) ≡ o → (o ≡ Ongoing → ⊥) → (plies : ℕ) → random_game (suc plies) generator g ≡ g

@@ -1,6 +1,7 @@
 pub mod Commands
 pub mod FirstMoves
 pub mod GameView
+pub mod Generate
 pub mod Looked
 pub mod OpeningView
 pub mod OutcomeView

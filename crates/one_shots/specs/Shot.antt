@@ -15,7 +15,7 @@ use Rattle.game_play.specs.Played.{Played}
 use Rattle.game_text.specs.declared.fault.GameFault.{GameFault}
 use Rattle.game_text.specs.Fault as game
 use Rattle.game_text.specs.GameText.{game_of}
-use Rattle.session_model.specs.Generate.{SaysGenerate}
+use Rattle.one_shots.specs.Generate.{SaysGenerate}
 use Rattle.words.specs.Asked.{Asked}
 use Rattle.words.specs.Command.{Command, Uci, Xboard, Moves, Status, Perft, Check, SelfMate, HelpMate, CheckCert, Variants, Reach, Generate, RulesOf, Suite, PnMate, Keys}
 use Rattle.one_shot_checks.specs.declared.fault.Fault.{Fault}

@@ -4,7 +4,7 @@ use Rattle.rand_pcg.specs.Lcg.{Lcg}
 use Rattle.rand_pcg.specs.Pcg.{pcg32}
 use Rattle.rules_model.specs.declared.moves.Move.{Move}
 use Rattle.game_play.specs.Played.{Played}
-use Rattle.session_model.specs.Generate.{random_game}
+use Rattle.one_shots.specs.Generate.{random_game}
 
 -- a word of the generator picks this move of the list; none of an empty list
 abbrev pub IsPicked : List Move → Lcg → Lcg → Option Move → Type 0

@@ -190,6 +190,7 @@ pub fn answer_refereed<S: Source>(
         SaysCommand opened.now.sections (command_seen opened.now.asked.command) lines answer.status answer.text)) }
     ensures cause { HasCause (S.faults source.old) (S.faults source.new) (IsUnread result) }
     ensures unsaid { ¬ (IsUnsaid result) }
+    ensures unread { reads_input (command_seen opened.now.asked.command) ≡ false → source.new ≡ source.old }
 {
     let outcome = refereed_text(alloc, opened.asked.command, &opened.sections, source);
     answer_of(alloc, outcome)

@@ -1,7 +1,7 @@
 //! What `generate` prints: a game of random moves.
 ghost use Rattle.std.specs.Prelude.{◌≤◌};
 ghost use Rattle.game_play.specs.declared.game.TheConstants.{MOST_PLIES};
-ghost use Rattle.session_model.specs.Generate.{SaysGenerate, SaysGenerated};
+ghost use Rattle.one_shots.specs.Generate.{SaysGenerate, SaysGenerated};
 ghost use Rattle.variant_rules.specs.Playable.{IsPlayable};
 ghost use Rattle.variant_rules.specs.View.{IfRules, found_view};
 ghost use Rattle.one_shot_checks.specs.NoAnswerView.{Answers, IsUnheard};

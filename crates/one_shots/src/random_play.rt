@@ -2,7 +2,7 @@
 ghost use Rattle.std.specs.Prelude.{◌≡◌, ◌+◌, ◌≤◌, ◌<◌, length, true, IfOk, OnOk};
 ghost use Rattle.rules_model.specs.Fit.{IsFit};
 ghost use Rattle.rules_model.specs.Sound.{is_sound};
-ghost use Rattle.session_model.specs.Generate as Generate;
+ghost use Rattle.one_shots.specs.Generate as Generate;
 ghost use Rattle.game_play.specs.Played.{story};
 ghost use Rattle.game_play.specs.declared.game.TheConstants.{MOST_PLIES};
 ghost use Rattle.rules_model.specs.Games.{result as result_of};

@@ -3,7 +3,7 @@ ghost use Rattle.std.specs.Prelude.{◌≡◌, ◌<◌, length, IfOk};
 ghost use Rattle.alpha_beta.specs.Roots.{AreLegal};
 ghost use Rattle.game_play.specs.Played.{legal_in, story};
 ghost use Rattle.evaluation.specs.Values.{value_of};
-ghost use Rattle.session_model.specs.Generate.{generated_text, value_text};
+ghost use Rattle.one_shots.specs.Generate.{generated_text, value_text};
 
 use alpha_beta::search_unwatched;
 use foundation::{Memory, Text};

@@ -21,7 +21,7 @@ use Rattle.pn_search.proofs.Standing.{in_place}
 kept-root : (f : Frame) (root : Position) (n : ℕ) → is_sound f.rules root ≡ true → end_at f 0 root ≡ None → IsKept (record { frame = f; root = root; moves = n; nodes = root_node f root n ∷ [] }) (open_pair ∷ [])
 unfolding pn new_tree pairs_of pairs_from
 kept-root f root n sound ongoing = record {
-  prove_grown = record { expansions = 0; is = refl };
+  grown = record { expansions = 0; is = refl };
   pairs = refl;
   sound = sound;
   ongoing = ongoing;
@@ -79,7 +79,7 @@ pn-more k t nodes is open_root e = next-pn k t (record t { nodes = nodes }) is (
 
 pub kept-grown : (t : ProofTree) (ps : List Pair) (nodes : List Node) (qs : List Pair) → IsKept t ps → is_settled t ≡ false → nodes ≡ nodes_after t.frame t.nodes (most_proving t) → length nodes < 2 ^ 32 → qs ≡ pairs_of nodes → IsKept (record t { nodes = nodes }) qs
 kept-grown t ps nodes qs kept open_root e few are = record {
-  prove_grown = record { expansions = suc kept.prove_grown.expansions; is = pn-more kept.prove_grown.expansions t nodes kept.prove_grown.is open_root e };
+  grown = record { expansions = suc kept.grown.expansions; is = pn-more kept.grown.expansions t nodes kept.grown.is open_root e };
   pairs = are;
   sound = kept.sound;
   ongoing = kept.ongoing;
@@ -87,7 +87,7 @@ kept-grown t ps nodes qs kept open_root e few are = record {
 }
 
 pub kept-rooted : (t : ProofTree) (ps : List Pair) → IsKept t ps → IsRooted t
-kept-rooted t ps kept = pn-rooted t.frame t.root t.moves kept.prove_grown.expansions t kept.prove_grown.is
+kept-rooted t ps kept = pn-rooted t.frame t.root t.moves kept.grown.expansions t kept.grown.is
 
 -- the most-proving leaf may be expanded
 pub leaf-expandable : (t : ProofTree) (ps : List Pair) → IsKept t ps → IsExpandable t.frame t.nodes (most_proving t).place (most_proving t).position

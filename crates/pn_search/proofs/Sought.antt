@@ -108,7 +108,7 @@ found-is g f n t sought frame root moves grown decides settled = by_pair (settle
           frame = frame;
           root = root;
           moves = moves;
-          prove_grown = grown;
+          grown = grown;
           pair = is ∙ pair ∙ ap (λ c. cond c won_pair lost_pair) (sym shown);
         }
 

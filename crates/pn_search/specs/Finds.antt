@@ -22,7 +22,7 @@ pub record IsFound (g : Played) (f : Frame) (n : ℕ) (won : Bool) (t : ProofTre
   pub frame : t.frame ≡ f
   pub root : t.root ≡ (story g).last
   pub moves : t.moves ≡ n
-  pub prove_grown : HasGrown t
+  pub grown : HasGrown t
   pub pair : root_pair t ≡ (if won then won_pair else lost_pair)
 
 -- the node with the number is there, and this is its position

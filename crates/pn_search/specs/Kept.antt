@@ -16,7 +16,7 @@ use Rattle.pn_search.specs.Trees.{ProofTree, HasGrown, left_after, end_at, grown
 
 -- it has grown from an ongoing root, and these are the pairs of its nodes
 pub record IsKept (t : ProofTree) (ps : List Pair) : Type 0 where
-  pub prove_grown : HasGrown t
+  pub grown : HasGrown t
   pub pairs : ps ≡ pairs_of t.nodes
   pub sound : is_sound t.frame.rules t.root ≡ true
   pub ongoing : end_at t.frame 0 t.root ≡ None

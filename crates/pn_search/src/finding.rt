@@ -147,7 +147,6 @@ pub fn find<R: Wait>(
     ensures handed { AreHandedBack shards.now passes result.0 }
     ensures found { IfOk result.1 (λ f. Finds.IsFound game.now shards.now.frame n f.won f.tree) }
 {
-    let _attacker = attacker;
     let mut passes = passes;
     let answer = find_lent(rt, alloc, game, n, shards, &mut passes);
     (passes, answer)

@@ -112,7 +112,7 @@ Concludes false turn events state best =
     (turn.events ≡ events ++ Says (move_line best ++ (played state best).text) ∷ [])
     × (turn.after ≡ (played state best).state)
 
--- depth after depth from a state, behind these events
+-- depth after depth from a state, after these events
 pub record Thinks (Interrupts : Type 0) (state : State) (first : Move) (answered : List Event) (turn : Turn State)
     (following : List Line) : Type 0 where
   pub before : List Event

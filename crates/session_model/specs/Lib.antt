@@ -3,7 +3,6 @@ pub mod CecpSession
 pub mod CecpState
 pub mod Deadlines
 pub mod Events
-pub mod Generate
 pub mod Laws
 pub mod Lines
 pub mod Mates

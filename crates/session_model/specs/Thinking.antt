@@ -114,7 +114,7 @@ IsShort None bound = ⊥
 IsShort (Some number) bound = number < bound
 
 -- The next line stops the search, or no line is left, where that may interrupt it; the share is below the bounds of
--- the searches so far and of what is cut; a reading stood at the deadline or behind it.
+-- the searches so far and of what is cut; a reading stood at the deadline or after it.
 abbrev pub MayCut : Dialect → Type 0 → Option ℕ → Option ℕ → ℕ → List ℕ → List Line → Cause → Type 0
 MayCut dialect Interrupts share time bound taken following Interrupted = Interrupts × IsStopped dialect following
 MayCut dialect Interrupts share time bound taken following OutOfNodes = IsShort share bound
@@ -152,7 +152,7 @@ MayEnd dialect Interrupts t done taken following (InSolve report n cause) =
     × IsOpen t (done + 1) n report
     × MayCut dialect Interrupts t.share t.time (searches_upto t (done + 1) + solve_within t n) taken following cause
 
--- a search of one depth after another, with these readings, and these lines behind it
+-- a search of one depth after another, with these readings, and these lines after it
 pub record Deepens (dialect : Dialect) (Interrupts : Type 0) (t : Task) (reports : List Report) (ending : Ending)
     (taken : List ℕ) (following : List Line) : Type 0 where
   pub valued : AreReports t 1 reports

@@ -24,7 +24,7 @@ pub data Setting : Type 0 where
   Variant : Option (List ℕ) → Setting
   Unknown : Setting
 
--- the words of the name: those behind the first `name`, up to the first `value` after it
+-- the words of the name: those after the first `name`, up to the first `value` after it
 abbrev pub name_words : List Word → List Word
 name_words words = words_before (codes "value") (unwrap_or (words_behind (codes "name") words) [])
 
@@ -34,7 +34,7 @@ value_text None = None
 value_text (Some []) = None
 value_text (Some (word ∷ words)) = Some (joined (word ∷ words))
 
--- the value: all words behind that `value`
+-- the value: all words after that `value`
 abbrev pub value_said : List Word → Option (List ℕ)
 value_said words = value_text (option_and_then (words_behind (codes "value")) (words_behind (codes "name") words))
 
@@ -58,7 +58,7 @@ pub data Placing : Type 0 where
   Fen : List ℕ → List Word → Placing
   NoPosition : Placing
 
--- the words behind `moves`
+-- the words after `moves`
 abbrev pub moves_said : List Word → List Word
 moves_said words = unwrap_or (words_behind (codes "moves") words) []
 

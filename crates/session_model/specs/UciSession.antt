@@ -88,7 +88,7 @@ abbrev pub first_of : Move → List Move → Move
 first_of other [] = other
 first_of other (m ∷ ms) = m
 
--- depth after depth, behind these lines
+-- depth after depth, after these lines
 pub record Searches (Interrupts : Type 0) (state : State) (go : Go) (t : Task) (first : Move) (turn : Turn State)
     (following : List Line) (texts : List (List ℕ)) : Type 0 where
   pub reports : List Report

@@ -10,8 +10,8 @@ use watching::{Cut, Halt, heed};
 ///
 /// # Errors
 ///
-/// The fault of the source or of the sink. The lines that were heard until then are answered, and only where the sink
-/// failed the last one in part.
+/// The fault of the source or of the sink; or, after 2^64 - 1 lines, no memory. The lines that were heard until then are
+/// answered, and only where the sink failed the last one in part.
 pub fn wait<S: Source, K: Sink>(
     source: &mut S,
     sink: &mut K,

@@ -38,7 +38,7 @@ reads_by style.Uci reading = []
 reads_by style.Post reading = reading ∷ []
 reads_by style.Silent reading = []
 
--- Events were gone through of which this holds, and these lines stand behind them. Only a front part was written.
+-- Events were gone through of which this holds, and these lines come after them. Only a front part was written.
 pub record BrokeHeld (dialect : Dialect) (moved : Moved) (behind : List Line)
     (Holds : List Event → Type 0) : Type 0 where
   pub events : List Event

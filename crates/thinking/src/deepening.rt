@@ -37,7 +37,8 @@ pub struct Depths {
 ///
 /// # Errors
 ///
-/// The fault of the source or of the sink; or no memory. What was written until then can be completed.
+/// The fault of the source or of the sink; or no memory. What was written until then is a front part of what
+/// may be written.
 pub fn iterative_deepening<R: Threads + Wait + Sync, S: Source, K: Sink, C: Clock, G: Gate + Sync>(
     rt: &R,
     alloc: Global,

@@ -53,7 +53,8 @@ fn reading_for<C: Clock>(style: Style, clock: &mut C) -> u64
 ///
 /// # Errors
 ///
-/// The fault of the source or of the sink; or no memory. What was written until then can be completed.
+/// The fault of the source or of the sink; or no memory. What was written until then is a front part of what
+/// may be written.
 pub fn search_depth<R: Threads + Wait + Sync, S: Source, K: Sink, C: Clock, G: Gate + Sync>(
     rt: &R,
     alloc: Global,

@@ -16,7 +16,7 @@ use std::alloc::Global;
 use std::sync::Wait;
 use std::thread::Threads;
 
-/// The same with the ports lent singly.
+/// The session over ports that are lent singly.
 fn serve_lent<R, S, K, C, G, F>(
     rt: &R,
     alloc: Global,

@@ -86,7 +86,7 @@ fn number_said(low: u32, high: u32, value: Option<&[u8]>) -> Option<u32>
     }
 }
 
-// The bytes of a text, where there is one.
+/// The bytes of a text, where there is one.
 pub fn bytes_of(value: &Option<Text>) -> Option<&[u8]>
     ensures { option_copied result ≡ value.now }
 {

@@ -1,6 +1,6 @@
 use Rattle.std.proofs.Common.{◌≡◌, ◌+◌, ◌-◌, ◌≤◌, length}
 use Rattle.game_play.specs.declared.game.TheConstants.{MOST_PLIES}
-use Rattle.session_model.specs.Generate.{random_game}
+use Rattle.one_shots.specs.Generate.{random_game}
 use Rattle.one_shots.proofs.random_play.play_on.Given as goal
 
 abbrev pub invariant-loop-ply : goal.invariant-loop-ply

@@ -2,7 +2,7 @@ use Rattle.std.proofs.Common.{◌≡◌, ◌%◌, List, Some, length, slice_get,
 use Rattle.rand_pcg.specs.Pcg.{pcg32}
 use Rattle.rules_model.specs.declared.moves.Move.{Move}
 use Rattle.game_play.specs.Played.{Played, legal_in}
-use Rattle.session_model.specs.Generate.{random_game}
+use Rattle.one_shots.specs.Generate.{random_game}
 use Rattle.one_shots.proofs.StepLemmas.{stepped, stuck}
 use Rattle.one_shots.proofs.random_play.play_picked.Goals as goal
 

@@ -6,7 +6,7 @@ use Rattle.game_play.specs.Played.{legal_in, story}
 use Rattle.game_text.specs.GameTexts.{perft_of}
 use Rattle.game_text.specs.OutcomeText.{outcome_text}
 use Rattle.rules_model.specs.Games.{result}
-use Rattle.session_model.specs.Generate.{generated_text, value_text}
+use Rattle.one_shots.specs.Generate.{generated_text, value_text}
 use Rattle.one_shots.proofs.report.report_of.Goals as goal
 
 regroup : (a b c d e f g h i j k l m n o : List ℕ) → ((((((a ++ (b ++ (c ++ (d ++ (e ++ (f ++ g)))))) ++ h) ++ (i ++ (j ++ k))) ++ l) ++ m) ++ n) ++ o

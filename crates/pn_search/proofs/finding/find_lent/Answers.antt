@@ -11,7 +11,7 @@ find_in-requires-clause-sought g c = subst (λ (f : Frame). IsSought c.args.game
 pub publish_below-requires-clause-at : goal.publish_below-requires-clause-at
 publish_below-requires-clause-at g c =
     let is = c.in_ok-found.ensures in
-    at-root c.in_ok-found.found.tree c.new-board.result.position is.prove_grown
+    at-root c.in_ok-found.found.tree c.new-board.result.position is.grown
     (ap (λ (s : Stance). s.position) c.new-board.ensures ∙ c.position.ensures.is ∙ sym is.root)
 
 pub returns-clause-found : goal.returns-clause-found

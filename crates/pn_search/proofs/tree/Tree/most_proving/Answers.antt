@@ -17,7 +17,7 @@ loop-child-init c =
     record {
       way = c.requires.way;
       here = record { within = c.requires.way.some; place_is = c.requires.way.root };
-      down = down-start t (subst HasGrown c.self.view_is c.self.invariant.prove_grown);
+      down = down-start t (subst HasGrown c.self.view_is c.self.invariant.grown);
     }
 
 pub best_child-requires-clause-within : goal.best_child-requires-clause-within

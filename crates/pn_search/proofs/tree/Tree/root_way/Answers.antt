@@ -12,6 +12,6 @@ returns c =
     let x : Leaf = record { place = 0; board = c.new.result } in
     let items = c.in_ok-push.ensures.items ∙ ap (λ xs. xs ++ x ∷ []) c.new-way.ensures.items in
     subst (IsWay t) (sym items)
-    (way-root t x (subst HasGrown c.self.view_is c.self.invariant.prove_grown) refl
+    (way-root t x (subst HasGrown c.self.view_is c.self.invariant.grown) refl
     (ap (λ (s : Stance). s.rules) c.new.ensures ∙ c.requires.tables)
     (ap (λ (s : Stance). s.position) c.new.ensures ∙ ap (λ (u : ProofTree). u.root) c.self.view_is))
