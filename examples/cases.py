@@ -19,11 +19,13 @@ import os
 import re
 import select
 import shlex
+import signal
 import subprocess
 import tempfile
 import time
 
-LONGEST = 60
+# Seconds for any one command: no case is about time, but a program that hangs is found.
+LONGEST = 600
 HOLE = re.compile(r"\[\[([^\]]*)\]\]")
 MOVE = r"(?:[a-l]\d+[a-l]\d+[a-z+]{0,2}|[A-Z]@[a-l]\d+)"
 DEPTH = re.compile(rf"info depth \d+ score (?:cp|mate) -?\d+ pv {MOVE}")
@@ -62,6 +64,16 @@ def matched(wanted, came, chosen, where):
     if not found:
         raise Wrong(came, wanted, where)
     return found.groupdict().get("chosen") or chosen
+
+
+def run_whole(words, **how):
+    """What a command prints. If it takes too long it is ended, with all that it has started."""
+    with subprocess.Popen(words, start_new_session=True, **how) as process:
+        try:
+            return process.communicate(timeout=LONGEST)[0]
+        except BaseException:
+            os.killpg(process.pid, signal.SIGKILL)
+            raise
 
 
 def compare(came, wanted):
@@ -190,9 +202,9 @@ class Case:
     def run_shell(self, program, folder):
         os.symlink(program, os.path.join(folder, "vengine"))
         env = {**os.environ, "PATH": f"{folder}:{os.environ['PATH']}"}
-        how = {"stdin": subprocess.DEVNULL, "stdout": subprocess.PIPE, "stderr": subprocess.STDOUT, "timeout": LONGEST}
-        done = subprocess.run(["sh", "-c", self.text], cwd=folder, env=env, **how)
-        compare(done.stdout.decode(errors="replace").splitlines(), self.wanted())
+        how = {"stdin": subprocess.DEVNULL, "stdout": subprocess.PIPE, "stderr": subprocess.STDOUT}
+        printed = run_whole(["sh", "-c", self.text], cwd=folder, env=env, **how)
+        compare(printed.decode(errors="replace").splitlines(), self.wanted())
 
     def run_session(self, program, folder):
         session = Session(program, self.words(), folder)

@@ -9,7 +9,7 @@ import re
 import subprocess
 import tempfile
 
-from cases import LONGEST, Wrong, compare
+from cases import LONGEST, Wrong, compare, run_whole
 
 TOP = os.path.abspath(os.path.join(os.path.dirname(os.path.abspath(__file__)), ".."))
 # What needs another machine, the registry of the system or the kit, or would run these cases again.
@@ -84,8 +84,8 @@ class Page:
 
     def fault(self, text, printed, how):
         try:
-            done = subprocess.run(["bash", "-c", text], timeout=LONGEST, **how)
-            compare(done.stdout.decode(errors="replace").splitlines(), printed)
+            came = run_whole(["bash", "-c", text], **how)
+            compare(came.decode(errors="replace").splitlines(), printed)
         except (Wrong, subprocess.TimeoutExpired) as error:
             return str(error)
         return None
