@@ -136,10 +136,27 @@ fn times_and_held_moves(rt: HostRuntime) {
     expect_time(&rt, alloc, "go mate 3 ponder", None, true);
 }
 
+/// Asserts the number that a word is, if it is one.
+fn expect_number(rt: &impl Abort, word: &str, wanted: Option<u64>) {
+    expect_of(rt, &word, number(word.as_bytes()) == wanted);
+}
+
 #[test]
 fn numbers(rt: HostRuntime) {
-    assert!(rt; last_mate(101) == 100 && last_mate(0) == 1);
-    assert!(rt; number(b"+1").is_none());
+    expect_number(&rt, "0", Some(0));
+    expect_number(&rt, "007", Some(7));
+    expect_number(&rt, "18446744073709551615", Some(u64::MAX));
+    expect_number(&rt, "18446744073709551616", None);
+    expect_number(&rt, "", None);
+    expect_number(&rt, "+1", None);
+    expect_number(&rt, "-1", None);
+    expect_number(&rt, "1.", None);
+}
+
+#[test]
+fn mates_are_asked_up_to_a_hundred(rt: HostRuntime) {
+    assert!(rt; last_mate(0) == 1 && last_mate(1) == 1);
+    assert!(rt; last_mate(100) == 100 && last_mate(101) == 100);
 }
 
 /// Asserts what a `go` searches where the pawns' moves from d2 and e2 are legal.

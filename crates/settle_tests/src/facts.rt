@@ -49,8 +49,18 @@ fn ends_of_positions(rt: HostRuntime) {
     expect(&rt, alloc, &placed("Kh1 kh3 Ra1", white, 7), None, ended);
 }
 
+/// Asserts whether White, who attacks, has won by the end, if it is one.
+fn expect_won(rt: &impl Abort, end: Outcome, wanted: Option<bool>) {
+    expect_eq(rt, won_by(Side::White, end), wanted);
+}
+
+// A repetition by which the attacker wins is no win of his.
 #[test]
-fn a_repetition_is_no_win(rt: HostRuntime) {
-    let repeated = Outcome::Won(Side::White, Cause::Repetition);
-    expect_eq(&rt, won_by(Side::White, repeated), Some(false));
+fn ends_are_won_by_a_side(rt: HostRuntime) {
+    let (white, black) = (Side::White, Side::Black);
+    expect_won(&rt, Outcome::Ongoing, None);
+    expect_won(&rt, Outcome::Won(white, Cause::Checkmate), Some(true));
+    expect_won(&rt, Outcome::Won(black, Cause::Checkmate), Some(false));
+    expect_won(&rt, Outcome::Won(white, Cause::Repetition), Some(false));
+    expect_won(&rt, Outcome::Drawn(Cause::Stalemate), Some(false));
 }
