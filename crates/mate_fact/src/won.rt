@@ -74,8 +74,8 @@ pub fn by_move(frame: &Frame, _tables: &Tables, p: &Position, m: &Move, known: &
     win_of(frame, p, known.moves + 1, Some(*m))
 }
 
-/// The win of a position where the attacker is to move, for a caller who knows that he wins after this legal move within
-/// so many more.
+/// The win of a position where the attacker is to move, for a caller who knows that he wins after this legal move
+/// within so many more.
 pub fn by_move_within(frame: &Frame, p: &Position, m: &Move, moves: u16) -> Fact
     requires attack { In.IsAttackIn frame.now p.now }
     requires legal { Member m.now (In.legal_in frame.now p.now) }
