@@ -9,6 +9,7 @@ mod won;
 pub use ends::{end_of, is_blocked};
 pub use forced_wins::won_by;
 pub use refuted::{
-    refuted_by_all, refuted_by_all_within, refuted_by_move, refuted_now, refuted_where,
+    refuted_by_all, refuted_by_all_within, refuted_by_move, refuted_by_move_within, refuted_now,
+    refuted_where,
 };
-pub use won::{by_all, by_all_within, by_move, won_now, won_where};
+pub use won::{by_all, by_all_within, by_move, by_move_within, won_now, won_where};

@@ -107,3 +107,15 @@ pub fn refuted_by_move(
 {
     refutation_of(frame, p, known.moves, Some(*m))
 }
+
+/// The refutation of a position where the other side is to move, for a caller who knows that the attacker does not win
+/// after this legal move within so many of his own.
+pub fn refuted_by_move_within(frame: &Frame, p: &Position, m: &Move, moves: u16) -> Fact
+    requires defence { In.IsDefenceIn frame.now p.now }
+    requires legal { Member m.now (In.legal_in frame.now p.now) }
+    requires refuted { In.near_in frame.now moves (next frame.now.rules p.now m.now) ≡ false }
+    ensures is { result ≡ Facts.fact_of p.now frame.now.attacker moves (Some m.now) false }
+    ensures truth { IsTrueIn frame.now result }
+{
+    refutation_of(frame, p, moves, Some(*m))
+}

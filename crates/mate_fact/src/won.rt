@@ -74,6 +74,19 @@ pub fn by_move(frame: &Frame, _tables: &Tables, p: &Position, m: &Move, known: &
     win_of(frame, p, known.moves + 1, Some(*m))
 }
 
+/// The win of a position where the attacker is to move, for a caller who knows that he wins after this legal move
+/// within so many more.
+pub fn by_move_within(frame: &Frame, p: &Position, m: &Move, moves: u16) -> Fact
+    requires attack { In.IsAttackIn frame.now p.now }
+    requires legal { Member m.now (In.legal_in frame.now p.now) }
+    requires won { In.near_in frame.now moves (next frame.now.rules p.now m.now) ≡ true }
+    requires short { moves < 65535 }
+    ensures is { result ≡ Facts.fact_of p.now frame.now.attacker (moves + 1) (Some m.now) true }
+    ensures truth { IsTrueIn frame.now result }
+{
+    win_of(frame, p, moves + 1, Some(*m))
+}
+
 // The most moves of these facts, 0 where there is none.
 fn greatest(known: &[Fact]) -> u16
     ensures { result ≡ Facts.greatest known.now }

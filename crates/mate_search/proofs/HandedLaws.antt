@@ -1,11 +1,10 @@
 -- Passes that are handed back, and the root's fact in them.
-use Rattle.std.proofs.Common.{◌≡◌, ℕ, Bool, true, false, List, refl, ap, sym, ◌∙◌, subst, arith}
+use Rattle.std.proofs.Common.{◌≡◌, ℕ, Bool, true, false, List, refl, ap, sym, ◌∙◌, arith}
 use Rattle.std.specs.Prelude.{nat_le}
 use Rattle.rules_model.specs.declared.board.Position.{Position}
 use Rattle.rules_model.specs.Games.{Story}
 use Rattle.rules_model.specs.Repeats.{repeat_of}
-use Rattle.mate_core.proofs.AnswerLemmas.{served, serves-from}
-use Rattle.mate_core.specs.Claims.{claim_of, fact_with}
+use Rattle.mate_core.proofs.AnswerLemmas.{serves-from}
 use Rattle.mate_core.specs.declared.frame.Frame.{Frame}
 use Rattle.mate_core.specs.Runs.{IsTrueIn}
 use Rattle.mate_fact.specs.InFrame as In
@@ -57,11 +56,6 @@ says_at f k false p r c h = λ q e high.
 -- and it is true where it is so
 pub fact_true : (f : Frame) (k : Fact) (p : Position) (n : ℕ) → k.repeat ≡ repeat_of p → k.moves ≡ n → k.counter ≡ p.counter → In.near_in f n p ≡ k.wins → IsTrueIn f k
 fact_true f k p n r m c h = says_at f k k.wins p r c (ap (λ x. In.near_in f x p) m ∙ h)
-
--- what a true fact that serves a position says is true of the position's repeat
-pub claimed_true : (f : Frame) (k : Fact) (p : Position) (n : ℕ) → IsTrueIn f k → serves k (repeat_of p) p.counter n ≡ true → IsTrueIn f (fact_with (repeat_of p) (claim_of k))
-claimed_true f k p n truth serves_it =
-    subst (λ r. IsTrueIn f (fact_with r (claim_of k))) (served k (repeat_of p) p.counter n serves_it).0 truth
 
 -- ---- the root
 

@@ -8,10 +8,10 @@ ghost use Rattle.mate_search.specs.Races.{IsLent, IsReady, race_lines, root_line
 
 use crate::race::{Race, RootTask};
 use crate::shared::RootFinding;
+use crate::shared_root::claim_on;
 use crate::solving::room_for;
 use crate::tree_round::grow_tree;
 use io_ports::Gate;
-use mate_core::Claim;
 use mate_settle::{FactTable, settle};
 use mate_shards::{Passes, Published};
 use playing::Board;
@@ -27,7 +27,7 @@ pub(crate) struct WorkerPasses {
     pub step: u64,
 }
 
-/// Settles the position after a root move: by a fact of the shards, or by a search whose fact is published.
+/// Settles the position after a root move: by a fact of the shards, or by a search, and what that tells is published.
 fn settle_next<R: Wait, W: Watch, G>(
     rt: &R,
     race: &Race<G>,
@@ -56,10 +56,11 @@ fn settle_next<R: Wait, W: Watch, G>(
             published: true,
         });
     }
-    let fact = settle(race.alloc, next, task.left, facts, watch)?;
-    let published = shards.publish_by_key(rt, passes, p, next.board_key(), Claim::of(&fact));
+    let told = settle(race.alloc, next, task.left, facts, watch)?;
+    let claim = claim_on(shards.frame(), p, told);
+    let published = shards.publish_by_key(rt, passes, p, next.board_key(), claim);
     Ok(RootFinding {
-        decides: fact.wins == task.attacking,
+        decides: told.wins == task.attacking,
         published: !matches!(published, Published::Full),
     })
 }

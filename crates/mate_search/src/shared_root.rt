@@ -4,6 +4,7 @@ ghost use Rattle.forced_wins.specs.Facts as Facts;
 ghost use Rattle.forced_wins.specs.Facts.{serves};
 ghost use Rattle.forced_wins.specs.Wins.{near_root};
 ghost use Rattle.game_play.specs.Played.{story};
+ghost use Rattle.mate_core.specs.Claims.{fact_with};
 ghost use Rattle.mate_core.specs.Runs.{IsTrueIn};
 ghost use Rattle.mate_fact.specs.InFrame.{near_in};
 ghost use Rattle.mate_shards.specs.Views.{ArePassesOf};
@@ -12,9 +13,9 @@ ghost use Rattle.mate_showing.specs.Answers.{IsFrameOf};
 ghost use Rattle.mate_search.specs.Handed.{AreHandedBack, RootIsRefuted, RootIsShared};
 
 use game_play::Game;
-use mate_core::{Fact, Frame};
+use mate_core::{Claim, Fact, Frame};
 use mate_fact::is_blocked;
-use mate_settle::FactTable;
+use mate_settle::{FactTable, Told};
 use mate_shards::{Passes, Shards};
 use mate_showing::Decision;
 use playing::Board;
@@ -61,6 +62,20 @@ fn fact_on(frame: &Frame, p: &Position, n: u16, verdict: Decision) -> Fact
         counter: p.counter,
         best: verdict.best,
         wins: verdict.won,
+    }
+}
+
+/// What is told of the position, as it is published: no move is named.
+pub(crate) fn claim_on(frame: &Frame, p: &Position, told: Told) -> Claim
+    requires { near_in frame.now told.moves p.now ≡ told.wins }
+    ensures { IsTrueIn frame.now (fact_with (Repeats.repeat_of p.now) result) }
+{
+    Claim {
+        attacker: frame.attacker,
+        moves: told.moves,
+        counter: p.counter,
+        best: None,
+        wins: told.wins,
     }
 }
 

@@ -7,7 +7,7 @@ ghost use Rattle.mate_tree.specs.Shapes.{IsStep};
 ghost use Rattle.mate_tree.specs.Weights.{Leaves, forest};
 ghost use Rattle.watching.specs.declared.halt.Halt.{Halt};
 
-use mate_core::Claim;
+use crate::shared_root::claim_on;
 use mate_settle::FactTable;
 use mate_shards::{Passes, Shards};
 use mate_tree::{Node, Step, grow_child, leaves_of};
@@ -42,12 +42,13 @@ fn publish_step<R: Wait>(
 {
     let next = board.after(&step.chosen);
     let p = next.position();
-    shards.publish_by_key(rt, passes, p, next.board_key(), Claim::of(&step.fact));
+    let claim = claim_on(shards.frame(), p, step.told);
+    shards.publish_by_key(rt, passes, p, next.board_key(), claim);
 }
 
 // The move of a step that wins.
 fn winning(step: &Step) -> Option<Move> {
-    if step.fact.wins {
+    if step.told.wins {
         Some(step.chosen)
     } else {
         None

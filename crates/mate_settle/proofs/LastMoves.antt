@@ -383,10 +383,6 @@ module _ (f : Frame) where
       let own = own-ongoing f.rules (repeat_of p) reply is in
       lost-at-once p movers t (λ h. let u = sym (ap (won_by f.attacker) own) ∙ h in cc)
 
-  -- an ended position is won as it is ended
-  pub ended-near : (p : Position) (won : Bool) → In.end_in f p ≡ Some won → won ≡ In.near_in f 1 p
-  ended-near p won e = sym (C.forced-ended G 1 p won e)
-
   -- one that goes on is won by one move where some move wins at once
   pub one-or-none : (p : Position) → In.IsAttackIn f p → (o : Option Move) → IfSome o (λ m. Member m (In.legal_in f p)) → IfSome o (λ m. In.near_in f 0 (after p m) ≡ true) → (o ≡ None → (m : Move) → Member m (In.legal_in f p) → In.near_in f 0 (after p m) ≡ false) → is_some o ≡ In.near_in f 1 p
   one-or-none p d None is won none =

@@ -6,12 +6,14 @@ use Rattle.std.proofs.lemmas.Option.{slice_get_within, get_or_from_slice_get}
 use Rattle.foundation.specs.Member.{Member, Lists}
 use Rattle.forced_wins.specs.Games.{Game, GameLaws}
 use Rattle.forced_wins.proofs.Counts.{by_cases}
+use Rattle.forced_wins.proofs.Rules.{laws}
 use Rattle.evaluation.proofs.TreeLaws.{sum_by-once}
 use Rattle.rules_model.specs.declared.board.Position.{Position}
 use Rattle.rules_model.specs.declared.moves.Move.{Move}
+use Rattle.rules_model.specs.Sides.{same_side}
 use Rattle.mate_core.specs.declared.frame.Frame.{Frame}
 use Rattle.mate_settle.proofs.OrderLaws.{read-at}
-use Rattle.mate_settle.specs.Choices.{lines_of_moves}
+use Rattle.mate_settle.specs.Choices.{lines_of_moves, lines_of_turn}
 use Rattle.mate_settle.specs.Lines.{plies, lines, lines_within, lines_after, seen_in}
 use Rattle.mate_settle.specs.Steps.{left_after}
 
@@ -99,26 +101,6 @@ member-sum f (x ∷ ms) m (inr k) = let s = sum_by-cons f x ms in let u = member
 
 -- ---- the lines of a loop over the moves
 
-module _ {P R M : Type 0} (r : Game P R M) (l : GameLaws P R M r) (p : P) (left : ℕ) (ms : List M) where
-  -- those of one move more
-  pub loop-more : (i : ℕ) (m : M) (y : ℕ) → slice_get ms i ≡ Some m → y ≡ lines_after r left p m → (1 + sum_by (lines_after r left p) (take i ms)) + y ≤ 1 + sum_by (lines_after r left p) (take (i + 1) ms)
-  loop-more i m y h e = let s = sum-more (lines_after r left p) ms i m h in omega arith
-
-  -- all of them are lines of the position
-  pub loop-whole : (a : Bool) (n i : ℕ) → r.attacking p ≡ a → (a ≡ true → 0 < n) → left ≡ left_after a n → Lists (λ m. Member m (r.legal p)) ms → 1 + sum_by (lines_after r left p) (take i ms) ≤ lines_within r n p
-  loop-whole a n i turn some e all =
-      let w = lines-after r l a p n turn some in
-      let s = part-whole (lines_after r left p) (r.legal p) ms all i in
-      let same : sum_by (lines_after r left p) (r.legal p) ≡ sum_by (lines_after r (left_after a n) p) (r.legal p) = ap (λ k. sum_by (lines_after r k p) (r.legal p)) e in
-      omega arith
-
-  pub loop-last : (a : Bool) (n i : ℕ) (m : M) (y : ℕ) → r.attacking p ≡ a → (a ≡ true → 0 < n) → left ≡ left_after a n → Lists (λ m. Member m (r.legal p)) ms → slice_get ms i ≡ Some m → y ≡ lines_after r left p m → (1 + sum_by (lines_after r left p) (take i ms)) + y ≤ lines_within r n p
-  loop-last a n i m y turn some e all h f =
-      let k = loop-more i m y h f in
-      let w = loop-whole a n (i + 1) turn some e all in
-      omega arith
-
--- the same, where the position itself is not entered
 module _ {P R M : Type 0} (r : Game P R M) (p : P) (left : ℕ) (ms : List M) where
   pub part-more : (i : ℕ) (m : M) (y : ℕ) → slice_get ms i ≡ Some m → y ≡ lines_after r left p m → sum_by (lines_after r left p) (take i ms) + y ≤ sum_by (lines_after r left p) (take (i + 1) ms)
   part-more i m y h e = let s = sum-more (lines_after r left p) ms i m h in omega arith
@@ -144,3 +126,16 @@ module _ (f kept : Frame) (p : Position) (ms : List Move) (n i : ℕ) (d : Move)
       let tried = turn-more in
       let whole = part-whole (lines_after (seen_in f) n p) ((seen_in f).legal p) ms all (i + 1) in
       omega arith
+
+-- the first moves of a turn have no more lines than the turn
+pub turn-whole : (f : Frame) (p : Position) (ms : List Move) (a : Bool) (left n i : ℕ) → same_side p.side f.attacker ≡ a → left ≡ left_after a n → Lists (λ m. Member m ((seen_in f).legal p)) ms → sum_by (lines_after (seen_in f) left p) (take i ms) ≤ lines_of_turn f n p
+turn-whole f p ms a left n i turn is all =
+    let whole = part-whole (lines_after (seen_in f) left p) ((seen_in f).legal p) ms all i in
+    let same : left ≡ left_after (same_side p.side f.attacker) n = is ∙ ap (λ b. left_after b n) (sym turn) in
+    subst (λ k. sum_by (lines_after (seen_in f) left p) (take i ms) ≤ lines_of_moves f k p) same whole
+
+-- and these are lines of the position, which is one itself
+pub lines-of-turn : (f : Frame) (p : Position) (n : ℕ) → (same_side p.side f.attacker ≡ true → 0 < n) → 1 + lines_of_turn f n p ≤ lines_within (seen_in f) n p
+lines-of-turn f p n some =
+    let whole = lines-after (seen_in f) (laws f.rules f.attacker) (same_side p.side f.attacker) p n refl some in
+    omega arith

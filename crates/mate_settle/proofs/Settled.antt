@@ -1,10 +1,9 @@
 -- How facts follow from those of the moves.
-use Rattle.std.proofs.Common.{◌≡◌, ◌⊎◌, inl, inr, ℕ, zero, suc, ◌+◌, ◌<◌, ◌≤◌, List, [], ◌∷◌, ◌++◌, take, Bool, true, false, not, if◌then◌else◌, nat_le, Option, Some, None, is_some, Result, Ok, Err, slice_get, refl, ap, sym, ◌∙◌, subst, arith, min, max}
+use Rattle.std.proofs.Common.{◌≡◌, ◌⊎◌, inl, inr, ℕ, zero, suc, ◌+◌, ◌<◌, ◌≤◌, List, [], ◌∷◌, ◌++◌, take, Bool, true, false, not, if◌then◌else◌, nat_le, Option, Some, None, is_some, slice_get, refl, ap, sym, ◌∙◌, subst, arith, min, max}
 use Rattle.std.proofs.lemmas.Bool.{and_parts, leb-true}
 use Rattle.std.proofs.lemmas.Bool.Decides.{nat_tests}
-use Rattle.std.specs.List.{find, sum_by}
+use Rattle.std.specs.List.{find, list_all, sum_by}
 use Rattle.std.specs.Option.{IfSome}
-use Rattle.std.specs.Result.{IfOk}
 use mathlib.Core.Bool.{beq}
 use Rattle.foundation.specs.Member.{Member, Appends, Lists}
 use Rattle.foundation.specs.Tests.{is_nil}
@@ -18,9 +17,12 @@ use Rattle.rules_model.specs.Sides.{same_side}
 use Rattle.rules_model.specs.Sound.{is_sound}
 use Rattle.sound_play.proofs.SoundLaws.{position_parts}
 use Rattle.forced_wins.specs.declared.fact.Fact.{Fact}
+use Rattle.forced_wins.specs.Contests.{Contest}
 use Rattle.forced_wins.specs.Facts.{Says, covers, serves, fact_of, smaller, WonNow, RefutedNow, EndedLost, OutOfMoves}
+use Rattle.forced_wins.specs.Wins.{positions}
+use Rattle.forced_wins.proofs.ClaimLaws as C
 use Rattle.forced_wins.proofs.Counts.{by_cases, not_true, true_false, le_true, and_true}
-use Rattle.forced_wins.proofs.ContestLaws.{all_intro}
+use Rattle.forced_wins.proofs.ContestLaws.{all_intro, any_intro}
 use Rattle.forced_wins.proofs.FactLaws.{near-more}
 use Rattle.forced_wins.proofs.Rules.{laws}
 use Rattle.forced_wins.proofs.TableLaws.{any_member, all_member}
@@ -30,11 +32,12 @@ use Rattle.mate_core.specs.Runs.{IsTrueIn}
 use Rattle.mate_fact.specs.InFrame as In
 use Rattle.legality.specs.Stance.{Stance, after, legal_in}
 use Rattle.mate_settle.specs.declared.choosing.WinningMove.{WinningMove}
-use Rattle.mate_settle.specs.Choices.{some_wins, all_win, move_of}
-use Rattle.mate_settle.specs.Known.{Answers}
+use Rattle.mate_settle.specs.Choices.{some_wins, all_win, move_of, lines_of_turn}
 use Rattle.mate_settle.specs.Lines.{plies, lines_within, lines_after, seen_in}
-use Rattle.mate_settle.proofs.Lines.{loop-more, loop-last, plies-fall, left-small, same-lines}
-use Rattle.mate_settle.specs.Steps.{left_after, farther_of, after_one, after_all, IsFar, NoneDecides}
+use Rattle.mate_settle.proofs.Lines.{part-more, turn-whole, plies-fall, left-small, same-lines}
+use Rattle.mate_settle.specs.declared.told.Told.{Told}
+use Rattle.mate_settle.specs.Steps.{left_after, farther_of, after_one, after_all, IsFar, Decides, NoneDecides}
+use Rattle.mate_settle.specs.Tellings.{IsTold, told_of, told_of_end}
 
 -- ---- what a fact that serves covers
 
@@ -76,51 +79,79 @@ module _ (f : Frame) where
   says_at false k q n h c = fewer n k.moves q (c.lost refl).0 h
 
   -- what a true fact says of a position for which it answers
-  pub record Told (k : Fact) (q : Position) (n : ℕ) : Type 0 where
+  pub record SaysOf (k : Fact) (q : Position) (n : ℕ) : Type 0 where
     pub same : k.repeat ≡ repeat_of q
     pub covers : CoversAt k k.wins q.counter n
     pub own : N k.moves q ≡ k.wins
     pub asked : N n q ≡ k.wins
 
-  pub told : (k : Fact) (q : Position) (n : ℕ) → IsTrueIn f k → serves k (repeat_of q) q.counter n ≡ true → Told k q n
+  pub told : (k : Fact) (q : Position) (n : ℕ) → IsTrueIn f k → serves k (repeat_of q) q.counter n ≡ true → SaysOf k q n
   told k q n t s =
       let p = served k (repeat_of q) q.counter n s in
       let c = covers-at k k.wins q.counter n p.1 in
       let own = says_own k.wins k q n t p.0 c in
       record { same = p.0; covers = c; own = own; asked = says_at k.wins k q n own c }
 
-  cover_own : (w : Bool) (k : Fact) (c n : ℕ) → CoversAt k w c n → CoversAt k w c k.moves
-  cover_own true k c n h = record { won = λ e. (omega arith, (h.won e).1); lost = λ e. absurd (let x = e in cc) }
-  cover_own false k c n h = record { won = λ e. absurd (let x = e in cc); lost = λ e. (omega arith, (h.lost e).1) }
+  -- ---- what is told
 
-  -- it serves the move that leads there
-  pub serves-move : (k : Fact) (p : Position) (m : Move) (n : ℕ) (a : Bool) → Told k (next f.rules p m) n → k.wins ≡ a → In.ServesMoveIn f p m a k
-  serves-move k p m n a t e = record {
-    kind = e;
-    serves = serves-from k (repeat_of (next f.rules p m)) (next f.rules p m).counter k.moves t.same (covers-from k k.wins (next f.rules p m).counter k.moves (cover_own k.wins k (next f.rules p m).counter n t.covers));
+  -- by a true fact that answers
+  pub tells : (k : Fact) (q : Position) (n : ℕ) → IsTrueIn f k → serves k (repeat_of q) q.counter n ≡ true → IsTold f q n (told_of k)
+  tells k q n t s = let said = told k q n t s in record { own = said.own; won = λ e. (said.covers.won e).0; lost = λ e. (said.covers.lost e).0 }
+
+  asked_of : (w : Bool) (k n : ℕ) (q : Position) → N k q ≡ w → (w ≡ true → k ≤ n) → (w ≡ false → n ≤ k) → N n q ≡ w
+  asked_of true k n q own won lost = more k n q (won refl) own
+  asked_of false k n q own won lost = fewer n k q (lost refl) own
+
+  -- it answers the question
+  pub told-asked : (q : Position) (n : ℕ) (t : Told) → IsTold f q n t → N n q ≡ t.wins
+  told-asked q n t is = asked_of t.wins t.moves n q is.own is.won is.lost
+
+  abbrev G : Contest Position Move
+  G = positions f.rules f.blocked f.attacker
+
+  -- of an ended position, by its end
+  pub told-ended : (q : Position) (n : ℕ) (won : Bool) → n ≤ 65535 → In.end_in f q ≡ Some won → IsTold f q n (told_of_end won)
+  told-ended q n true small e = record { own = C.forced-ended G 0 q true e; won = λ w. omega arith; lost = λ w. absurd (let x = w in cc) }
+  told-ended q n false small e = record { own = C.forced-ended G 65535 q false e; won = λ w. absurd (let x = w in cc); lost = λ w. small }
+
+  -- by one move that decides
+  one_decides : (a : Bool) (k : ℕ) (p : Position) (m : Move) → Decides f p a k m → N (after_one a k) p ≡ a
+  one_decides true k p m d =
+      let one_more : k + 1 ≡ suc k = omega arith in
+      ap (λ z. N z p) one_more
+      ∙ C.forced-attack G (laws f.rules f.attacker).turns k p d.ongoing d.turn
+      ∙ any_intro (λ x. N k (next f.rules p x)) m (In.legal_in f p) d.legal d.after
+  one_decides false k p m d =
+      let wins : Move → Bool = λ x. N k (next f.rules p x) in
+      let fails : list_all wins (In.legal_in f p) ≡ false = not_true (list_all wins (In.legal_in f p)) (λ t. true_false _ (all_member wins (In.legal_in f p) t m d.legal) d.after) in
+      C.forced-defence G (laws f.rules f.attacker).turns k p d.ongoing d.turn ∙ fails
+
+  one_won : (a : Bool) (n : ℕ) (q : Position) (t : Told) → IsTold f q (left_after a n) t → t.wins ≡ a → (a ≡ true → 0 < n) → a ≡ true → after_one a t.moves ≤ n
+  one_won true n q t is e some w = let few = is.won e in let z = some refl in omega arith
+  one_won false n q t is e some w = absurd (let x = w in cc)
+
+  one_lost : (a : Bool) (n : ℕ) (q : Position) (t : Told) → IsTold f q (left_after a n) t → t.wins ≡ a → a ≡ false → n ≤ after_one a t.moves
+  one_lost true n q t is e w = absurd (let x = w in cc)
+  one_lost false n q t is e w = let many = is.lost e in omega arith
+
+  pub told-one : (a : Bool) (n : ℕ) (p q : Position) (m : Move) (t : Told) → Decides f p a t.moves m → IsTold f q (left_after a n) t → t.wins ≡ a → (a ≡ true → 0 < n) → IsTold f p n (record { wins = a; moves = after_one a t.moves })
+  told-one a n p q m t d is e some = record {
+    own = one_decides a t.moves p m d;
+    won = one_won a n q t is e some;
+    lost = one_lost a n q t is e;
   }
 
-  pub short-of : (k : Fact) (q : Position) (n : ℕ) (a : Bool) → Told k q n → k.wins ≡ a → a ≡ true → k.moves ≤ n
-  short-of k q n a t e h = (t.covers.won (e ∙ h)).0
-
-  -- what one move decides answers the question
-  pub one-answers : (a : Bool) (k : Fact) (p q : Position) (best : Option Move) (left n : ℕ) → Told k q left → k.wins ≡ a → left ≡ left_after a n → (a ≡ true → 0 < n) → serves (fact_of p f.attacker (after_one a k.moves) best a) (repeat_of p) p.counter n ≡ true
-  one-answers a k p q best left n t e h some =
-      let x = fact_of p f.attacker (after_one a k.moves) best a in
-      serves-from x (repeat_of p) p.counter n refl (covers-from x a p.counter n (by_side a t.covers e h some))
-    where
-      by_side : (a : Bool) → CoversAt k k.wins q.counter left → k.wins ≡ a → left ≡ left_after a n → (a ≡ true → 0 < n) → CoversAt (fact_of p f.attacker (after_one a k.moves) best a) a p.counter n
-      by_side true c e h some = let u = (c.won e).0 in let z = some refl in record { won = λ x. (omega arith, omega arith); lost = λ x. absurd (let y = x in cc) }
-      by_side false c e h some = let u = (c.lost e).0 in record { won = λ x. absurd (let y = x in cc); lost = λ x. (omega arith, omega arith) }
+  pub told-short : (a : Bool) (n : ℕ) (q : Position) (t : Told) → IsTold f q (left_after a n) t → t.wins ≡ a → n ≤ 1000 → a ≡ true → t.moves < 65535
+  told-short a n q t is e small w = let few = is.won (e ∙ w) in let left = left-small a n in omega arith
 
   -- ---- none of the first moves decides
 
   pub none-first : (p : Position) (a : Bool) (far : ℕ) (ms : List Move) → NoneDecides f p a far (take 0 ms)
   none-first p a far ms = record { each = λ m k. absurd (none-taken m ms k) }
 
-  pub far-more : (a : Bool) (left far : ℕ) (k : Fact) (q : Position) → IsFar a left far → Told k q left → k.wins ≡ not a → IsFar a left (farther_of a far k.moves)
-  far-more true left far k q h t e = let c = (t.covers.lost e).0 in omega arith
-  far-more false left far k q h t e = let c = (t.covers.won e).0 in omega arith
+  pub far-more : (a : Bool) (left far : ℕ) (k : Told) (q : Position) → IsFar a left far → IsTold f q left k → k.wins ≡ not a → IsFar a left (farther_of a far k.moves)
+  far-more true left far k q h t e = let c = t.lost e in omega arith
+  far-more false left far k q h t e = let c = t.won e in omega arith
 
   near_farther : (a : Bool) (far k : ℕ) (q : Position) → N far q ≡ not a → N (farther_of a far k) q ≡ not a
   near_farther true far k q h = fewer (min far k) far q (omega arith) h
@@ -182,7 +213,7 @@ module _ {X : Type 0} (test : X → Bool) where
       (λ t. let later = find-some-back ys x (rw t at h) in (inr later.0, later.1))
 
 module _ (f : Frame) (p : Position) where
-  pub none-more : (a : Bool) (far i : ℕ) (ms : List Move) (x : Move) (k : Fact) (left : ℕ) → slice_get ms i ≡ Some x → NoneDecides f p a far (take i ms) → Told f k (next f.rules p x) left → k.wins ≡ not a → NoneDecides f p a (farther_of a far k.moves) (take (i + 1) ms)
+  pub none-more : (a : Bool) (far i : ℕ) (ms : List Move) (x : Move) (k : Told) (left : ℕ) → slice_get ms i ≡ Some x → NoneDecides f p a far (take i ms) → IsTold f (next f.rules p x) left k → k.wins ≡ not a → NoneDecides f p a (farther_of a far k.moves) (take (i + 1) ms)
   none-more a far i ms x k left h n t e = record {
     each = each-more {Q = λ m. In.near_in f (farther_of a far k.moves) (next f.rules p m) ≡ not a} ms i x h
         (λ m is. near_farther f a far k.moves (next f.rules p m) (n.each m is))
@@ -266,14 +297,18 @@ after-is rules f s t m e d = ap (λ (x : Stance). x.position) d ∙ ap (λ (x : 
 pub moves-of : (f : Frame) (s : Stance) (ms : List Move) → s.rules ≡ f.rules → Lists (λ m. Member m (legal_in s)) ms → Lists (λ m. Member m (In.legal_in f s.position)) ms
 moves-of f s ms e all = subst (λ (x : Rules). Lists (λ m. Member m (legal x (repeat_of s.position))) ms) e all
 
--- what the fact on it says
-pub one-told : (f g : Frame) (t : Stance) (q : Position) (k : Fact) (n : ℕ) → g ≡ f → t.position ≡ q → IsTrueIn g k → Answers t n k → Told f k q n
-one-told f g t q k n e d u a = told f k q n (subst (λ x. IsTrueIn x k) e u) (subst (λ (y : Position). serves k (repeat_of y) y.counter n ≡ true) d a)
+-- the same move in the same position of the same frame
+pub decides-moved : (f g : Frame) (p q : Position) (a : Bool) (k : ℕ) (m : Move) → g ≡ f → q ≡ p → Decides f p a k m → Decides g q a k m
+decides-moved f g p q a k m e d h = subst (λ (x : Frame). Decides x q a k m) (sym e) (subst (λ (y : Position). Decides f y a k m) (sym d) h)
 
--- a fact that answers for the position after the move
-pub told-after : {E : Type 0} (f : Frame) (s t : Stance) (m : Move) (n : ℕ) (r : Result Fact E) → s.rules ≡ f.rules → t ≡ after s m → IfOk r (IsTrueIn f) → IfOk r (Answers t n) → IfOk r (λ k. Told f k (next f.rules s.position m) n)
-told-after f s t m n (Ok k) e d u a = one-told f f t (next f.rules s.position m) k n refl (after-is f.rules f s t m e d) u a
-told-after f s t m n (Err why) e d u a = tt
+-- a legal move after which the position is as the side to move wants it decides
+pub decides-by : (f : Frame) (s : Stance) (m : Move) (a : Bool) (n : ℕ) (t : Told) → s.rules ≡ f.rules → In.end_in f s.position ≡ None → same_side s.position.side f.attacker ≡ a → Member m (legal_in s) → IsTold f (after s m).position n t → t.wins ≡ a → Decides f s.position a t.moves m
+decides-by f s m a n t rules on turn is told wins = record {
+  ongoing = on;
+  turn = turn;
+  legal = subst (λ (x : Rules). Member m (legal x (repeat_of s.position))) rules is;
+  after = subst (λ (q : Position). In.near_in f t.moves q ≡ a) (after-is f.rules f s (after s m) m rules refl) (told.own ∙ wins);
+}
 
 -- a position is won, or is not, as is asked
 pub as-asked : (won w : Bool) → w ≡ won → (if won then w else not w) ≡ true
@@ -320,15 +355,18 @@ module _ {f kept : Frame} {s t : Stance} {ms : List Move} {a : Bool} {left n i :
   lines_same : lines_within (seen_in kept) left t.position ≡ lines_after (seen_in f) left s.position x
   lines_same = same-lines kept f t.position (next f.rules s.position x) left u.kept_is u.position_is
 
-  -- the lines so far, the position's own among them, and those of the move
+  -- the lines so far, and those of the move
   abbrev turn_lines : ℕ
-  turn_lines = (1 + sum_by (lines_after (seen_in f) left s.position) (take i ms)) + lines_within (seen_in kept) left t.position
+  turn_lines = sum_by (lines_after (seen_in f) left s.position) (take i ms) + lines_within (seen_in kept) left t.position
 
-  pub turn-lines : turn_lines ≤ 1 + sum_by (lines_after (seen_in f) left s.position) (take (i + 1) ms)
-  turn-lines = loop-more (seen_in f) (laws f.rules f.attacker) s.position left ms i x _ u.read lines_same
+  pub turn-lines : turn_lines ≤ sum_by (lines_after (seen_in f) left s.position) (take (i + 1) ms)
+  turn-lines = part-more (seen_in f) s.position left ms i x _ u.read lines_same
 
-  pub turn-ends : turn_lines ≤ lines_within (seen_in f) n s.position
-  turn-ends = loop-last (seen_in f) (laws f.rules f.attacker) s.position left ms a n i x _ u.turn u.some u.left_is u.all u.read lines_same
+  pub turn-ends : turn_lines ≤ lines_of_turn f n s.position
+  turn-ends =
+      let more = turn-lines in
+      let whole = turn-whole f s.position ms a left n (i + 1) u.turn u.left_is u.all in
+      omega arith
 
   pub turn-falls : plies (seen_in kept) left t.position < plies (seen_in f) n s.position
   turn-falls =
@@ -338,25 +376,8 @@ module _ {f kept : Frame} {s t : Stance} {ms : List Move} {a : Bool} {left n i :
       let of_position = subst (λ y. plies r left y < plies r n s.position) (sym u.position_is) of_left in
       subst (λ (y : Frame). plies (seen_in y) left t.position < plies r n s.position) (sym u.kept_is) of_position
 
-  pub turn-told : (k : Fact) → IsTrueIn kept k → Answers t left k → Told f k (next f.rules s.position x) left
-  turn-told k truth serves = one-told f kept t (next f.rules s.position x) k left u.kept_is u.position_is truth serves
-
--- a fact after a move that is as the side to move wants it
-module _ (f : Frame) (s : Stance) (x : Move) (a : Bool) (n : ℕ) (k : Fact) (rules : s.rules ≡ f.rules) (truth : IsTrueIn f k) (told : Answers (after s x) (left_after a n) k) (wins : k.wins ≡ a) where
-  wanted_told : Told f k (next f.rules s.position x) (left_after a n)
-  wanted_told = one-told f f (after s x) (next f.rules s.position x) k (left_after a n) refl (after-is f.rules f s (after s x) x rules refl) truth told
-
-  pub wanted-serves : In.ServesMoveIn f s.position x a k
-  wanted-serves = serves-move f k s.position x (left_after a n) a wanted_told wins
-
-  pub wanted-short : n ≤ 1000 → a ≡ true → k.moves < 65535
-  wanted-short small e =
-      let short = short-of f k (next f.rules s.position x) (left_after a n) a wanted_told wins e in
-      let left = left-small a n in
-      omega arith
-
-  pub wanted-answers : (a ≡ true → 0 < n) → serves (fact_of s.position f.attacker (after_one a k.moves) (Some x) a) (repeat_of s.position) s.position.counter n ≡ true
-  wanted-answers some = one-answers f a k s.position (next f.rules s.position x) (Some x) (left_after a n) n wanted_told wins refl some
+  pub turn-told : (k : Told) → IsTold kept t.position left k → IsTold f (next f.rules s.position x) left k
+  turn-told k is = subst (λ (g : Frame). IsTold g (next f.rules s.position x) left k) u.kept_is (subst (λ (q : Position). IsTold kept q left k) u.position_is is)
 
 -- what is appended to no list is the whole list
 pub appended-all : {X : Type 0} (P : X → Type 0) (old new : List X) → old ≡ [] → Appends P old new → Lists P new
@@ -387,21 +408,6 @@ module _ (f : Frame) (n : ℕ) (p : Position) (ms : List Move) (all : Lists (λ 
   none-lost (Some c) first =
       let back = find-some-back (λ m. not (won m)) ms c.chosen (sym first) in
       sym (one-fails c.chosen (all.sound c.chosen back.0) (not-true (won c.chosen) back.1))
-
--- ---- a win that is made for a question answers it
-
-pub win-answers : (f : Frame) (p : Position) (n : ℕ) (best : Option Move) → serves (fact_of p f.attacker n best true) (repeat_of p) p.counter n ≡ true
-win-answers f p n best =
-    let x = fact_of p f.attacker n best true in
-    serves-from x (repeat_of p) p.counter n refl (covers-from x true p.counter n (record { won = λ e. (omega arith, omega arith); lost = λ e. absurd (let z = e in cc) }))
-
-pub refutation-answers : (f : Frame) (p : Position) (best : Option Move) → serves (fact_of p f.attacker 1 best false) (repeat_of p) p.counter 1 ≡ true
-refutation-answers f p best =
-    let x = fact_of p f.attacker 1 best false in
-    serves-from x (repeat_of p) p.counter 1 refl (covers-from x false p.counter 1 (record { won = λ e. absurd (let z = e in cc); lost = λ e. (omega arith, omega arith) }))
-
-pub loss-answers : (f : Frame) (p : Position) → serves (fact_of p f.attacker (smaller (0 + 1) 65535) None false) (repeat_of p) p.counter 1 ≡ true
-loss-answers f p = refutation-answers f p None
 
 -- where some move is listed, some move is legal
 pub some-listed : (legal ms : List Move) → Lists (λ m. Member m legal) ms → is_nil ms ≡ is_nil legal

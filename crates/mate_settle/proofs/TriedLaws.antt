@@ -18,6 +18,7 @@ use Rattle.mate_core.specs.declared.frame.Frame.{Frame}
 use Rattle.mate_fact.specs.InFrame as In
 use Rattle.mate_settle.specs.LastMoves.{only_checks_win}
 use Rattle.mate_settle.specs.Refuters.{IsRefuter}
+use Rattle.mate_settle.specs.Steps.{Decides}
 use Rattle.mate_settle.specs.Tried.{AreTried, HoldsWins}
 use Rattle.mate_settle.proofs.LastMoves.{met-loses, one-reply, quiet-loses}
 use Rattle.mate_settle.proofs.Settled.{moves-of}
@@ -66,6 +67,11 @@ none_wins f s ms holds none m legal =
 pub some_held : (f : Frame) (s : Stance) (ms : List Move) → HoldsWins f s.position ms → (o : Option Move) → IfSome o (λ m. Member m ms) → IfSome o (λ m. Member m (In.legal_in f s.position))
 some_held f s ms holds None listed = listed
 some_held f s ms holds (Some m) listed = holds.sound m listed
+
+-- and decides, if it wins
+pub some_decides : (f : Frame) (s : Stance) (ms : List Move) → HoldsWins f s.position ms → In.IsAttackIn f s.position → (o : Option Move) → IfSome o (λ m. Member m ms) → IfSome o (λ m. In.near_in f 0 (next f.rules s.position m) ≡ true) → IfSome o (Decides f s.position true 0)
+some_decides f s ms holds attack None listed wins = listed
+some_decides f s ms holds attack (Some m) listed wins = record { ongoing = attack.ongoing; turn = attack.turn; legal = holds.sound m listed; after = wins }
 
 -- a position with such a reply is not won by one move
 pub reply_refutes : (f : Frame) (s : Stance) (m : Move) → s.rules ≡ f.rules → same_side s.position.side f.attacker ≡ false → IsRefuter f s m → In.near_in f 1 s.position ≡ false

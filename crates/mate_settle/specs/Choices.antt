@@ -5,10 +5,12 @@ use Rattle.foundation.specs.Member.{Member}
 use Rattle.rules_model.specs.declared.board.Position.{Position}
 use Rattle.rules_model.specs.declared.moves.Move.{Move}
 use Rattle.rules_model.specs.Next.{next}
+use Rattle.rules_model.specs.Sides.{same_side}
 use Rattle.mate_core.specs.declared.frame.Frame.{Frame}
 use Rattle.mate_fact.specs.InFrame.{near_in, legal_in}
 use Rattle.mate_settle.specs.declared.choosing.WinningMove.{WinningMove}
 use Rattle.mate_settle.specs.Lines.{lines_after, seen_in}
+use Rattle.mate_settle.specs.Steps.{left_after}
 
 -- after the move the position is won within n moves
 abbrev pub wins_after : Frame → ℕ → Position → Move → Bool
@@ -35,3 +37,7 @@ move_of (Some c) = Some c.chosen
 -- the lines that go on after each of its moves
 abbrev pub lines_of_moves : Frame → ℕ → Position → ℕ
 lines_of_moves f n p = sum_by (lines_after (seen_in f) n p) (legal_in f p)
+
+-- the same, where the attacker has n moves left before them
+abbrev pub lines_of_turn : Frame → ℕ → Position → ℕ
+lines_of_turn f n p = lines_of_moves f (left_after (same_side p.side f.attacker) n) p

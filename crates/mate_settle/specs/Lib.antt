@@ -1,6 +1,7 @@
 pub mod Lines
 pub mod Steps
 pub mod Known
+pub mod Tellings
 pub mod Choices
 pub mod LastMoves
 pub mod Refuters

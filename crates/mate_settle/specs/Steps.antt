@@ -1,12 +1,13 @@
 -- How a position is settled from those that its moves lead to.
-use Rattle.std.specs.Prelude.{◌≡◌, ℕ, ◌+◌, ◌-◌, ◌≤◌, List, Bool, true, false, not, min, max}
+use Rattle.std.specs.Prelude.{◌≡◌, ℕ, ◌+◌, ◌-◌, ◌≤◌, List, Bool, true, false, not, min, max, None}
 use Rattle.foundation.specs.Member.{Member}
 use Rattle.rules_model.specs.declared.board.Position.{Position}
 use Rattle.rules_model.specs.declared.moves.Move.{Move}
 use Rattle.rules_model.specs.Next.{next}
+use Rattle.rules_model.specs.Sides.{same_side}
 use Rattle.forced_wins.specs.Facts.{smaller}
 use Rattle.mate_core.specs.declared.frame.Frame.{Frame}
-use Rattle.mate_fact.specs.InFrame.{near_in}
+use Rattle.mate_fact.specs.InFrame.{end_in, legal_in, near_in}
 
 -- how many moves the attacker has after a move, his own or the other side's
 abbrev pub left_after : Bool → ℕ → ℕ
@@ -35,6 +36,14 @@ after_all false far = far
 abbrev pub IsFar : Bool → ℕ → ℕ → Type 0
 IsFar true left far = left ≤ far
 IsFar false left far = far ≤ left
+
+-- this legal move decides: the position goes on, and after it the attacker wins within so many moves where he is to
+-- move, and else does not
+pub record Decides (f : Frame) (p : Position) (attacking : Bool) (moves : ℕ) (m : Move) : Type 0 where
+  pub ongoing : end_in f p ≡ None
+  pub turn : same_side p.side f.attacker ≡ attacking
+  pub legal : Member m (legal_in f p)
+  pub after : near_in f moves (next f.rules p m) ≡ attacking
 
 -- none of these moves decides: where the attacker is to move, each is refuted for `far` moves, else each is won within
 -- as many

@@ -9,7 +9,7 @@ ghost use Rattle.watching.specs.declared.halt.Halt.{Halt};
 
 use crate::fact_table::FactTable;
 use crate::settling::settle;
-use mate_core::Fact;
+use crate::told::Told;
 use playing::Board;
 use rules_model::Move;
 use std::alloc::Global;
@@ -22,7 +22,7 @@ pub struct WinningMove {
     pub moves: u16,
 }
 
-/// Settles the position after a legal move: a fact that says whether it is won within n moves.
+/// Settles the position after a legal move: whether it is won within n moves.
 ///
 /// # Errors
 ///
@@ -35,7 +35,7 @@ fn settle_after<W: Watch>(
     n: u16,
     facts: &mut FactTable,
     watch: &mut W,
-) -> Result<Fact, Halt>
+) -> Result<Told, Halt>
     requires rules { board.now.rules ≡ facts.old.rules }
     requires legal { Member chosen.now (legal_in board.now) }
     requires small { n ≤ 1000 }
@@ -82,11 +82,11 @@ fn first_that<W: Watch>(
         W.ended watch.old watch.new (lines_of_moves facts.old n board.now.position) why }
 {
     for i in 0..moves.len() {
-        let fact = settle_after(alloc, board, &moves[i], n, facts, watch)?;
-        if fact.wins == won {
+        let told = settle_after(alloc, board, &moves[i], n, facts, watch)?;
+        if told.wins == won {
             return Ok(Some(WinningMove {
                 chosen: moves[i],
-                moves: fact.moves,
+                moves: told.moves,
             }));
         }
     }

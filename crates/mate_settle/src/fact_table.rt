@@ -2,7 +2,9 @@
 ghost use Rattle.std.specs.Prelude.{◌≡◌, ◌<◌, IfOk, IfSome};
 ghost use Rattle.mate_core.specs.Runs.{IsTrueIn};
 ghost use Rattle.mate_settle.specs.Known.{Answers};
+ghost use Rattle.mate_settle.specs.Tellings.{IsTold};
 
+use crate::told::Told;
 use mate_core::{Fact, Frame, serves};
 use playing::Board;
 use rules_model::{Kind, Memory, Move, Square, repeat_of};
@@ -180,14 +182,35 @@ impl<'f> FactTable<'f> {
     }
 
     /// A kept fact that says whether the position is won within this many moves, if one is found at once.
+    fn serving(&self, board: &Board, moves: u16) -> Option<&Fact>
+        ensures serves { IfSome result (λ fact. Answers board.now moves fact.now) }
+        ensures truth { IfSome result (λ fact. IsTrueIn self.now fact.now) }
+    {
+        let p = board.position();
+        match self.of_key(board.key()) {
+            Some(fact) if serves(fact, &repeat_of(p), p.counter, moves) => Some(fact),
+            _ => None,
+        }
+    }
+
+    /// The same fact, copied.
     pub fn look(&self, board: &Board, moves: u16) -> Option<Fact>
         ensures serves { IfSome result (Answers board.now moves) }
         ensures truth { IfSome result (IsTrueIn self.now) }
     {
-        let p = board.position();
-        match self.of_key(board.key()) {
-            Some(fact) if serves(fact, &repeat_of(p), p.counter, moves) => Some(*fact),
-            _ => None,
+        match self.serving(board, moves) {
+            Some(fact) => Some(*fact),
+            None => None,
+        }
+    }
+
+    /// What it tells, without a copy of it.
+    pub fn told(&self, board: &Board, moves: u16) -> Option<Told>
+        ensures { IfSome result (IsTold self.now board.now.position moves) }
+    {
+        match self.serving(board, moves) {
+            Some(fact) => Some(Told::of(fact)),
+            None => None,
         }
     }
 

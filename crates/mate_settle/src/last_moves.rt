@@ -4,12 +4,8 @@ ghost use Rattle.std.specs.Bool.{OnTrue};
 ghost use Rattle.foundation.specs.Member.{Member};
 ghost use Rattle.check_moves.specs.Checks.{AreChecksIn};
 ghost use Rattle.check_moves.specs.Flights.{AreFlights};
-ghost use Rattle.forced_wins.specs.Facts as Facts;
-ghost use Rattle.mate_core.specs.Runs.{IsTrueIn};
 ghost use Rattle.mate_fact.specs.InFrame as In;
-ghost use Rattle.mate_settle.specs.Known.{Answers};
 ghost use Rattle.mate_settle.specs.LastMoves as Last;
-ghost use Rattle.mate_settle.specs.Tried as Tried;
 ghost use Rattle.rules_model.specs.declared.moves.Move.{Move};
 ghost use Rattle.rules_model.specs.Next.{next};
 ghost use Rattle.rules_model.specs.Sides.{same_side};
@@ -18,10 +14,10 @@ use crate::fact_table::FactTable;
 use crate::ordering::reached;
 use crate::settling::legal_list;
 use check_moves::{Checks, KnownFlights, checks_of, may_check};
-use mate_core::{Fact, Frame};
-use mate_fact::{refuted_by_all_within, won_by};
+use mate_core::Frame;
+use mate_fact::won_by;
 use playing::Board;
-use rules_model::{Memory, Move, Position, Promo, Rules, Square, Value, cell_at, repeat_of};
+use rules_model::{Memory, Move, Promo, Rules, Square, Value, cell_at};
 use std::alloc::Global;
 
 fn is_win(value: Value) -> bool
@@ -311,64 +307,4 @@ pub(crate) fn winning_move(
         }
     }
     None
-}
-
-/// The win of a position within one move, by this one.
-fn win_in_one(frame: &Frame, p: &Position, m: Move) -> Fact
-    requires { In.near_in frame.now 1 p.now ≡ true }
-    ensures is { result ≡ Facts.fact_of p.now frame.now.attacker 1 (Some m) true }
-    ensures truth { IsTrueIn frame.now result }
-{
-    Fact {
-        repeat: repeat_of(p),
-        attacker: frame.attacker,
-        moves: 1,
-        counter: p.counter,
-        best: Some(m),
-        wins: true,
-    }
-}
-
-/// The refutation of a position before the attacker's last move, by this reply.
-pub(crate) fn refuted_in_one(frame: &Frame, p: &Position, m: Move) -> Fact
-    requires { In.near_in frame.now 1 p.now ≡ false }
-    ensures is { result ≡ Facts.fact_of p.now frame.now.attacker 1 (Some m) false }
-    ensures truth { IsTrueIn frame.now result }
-{
-    Fact {
-        repeat: repeat_of(p),
-        attacker: frame.attacker,
-        moves: 1,
-        counter: p.counter,
-        best: Some(m),
-        wins: false,
-    }
-}
-
-/// Whether the attacker wins by his last move, where each that does so is one of these: a true fact that says it.
-pub(crate) fn by_last_move(
-    alloc: Global,
-    frame: &Frame,
-    board: &Board,
-    moves: &[Move],
-    checks: &Option<Checks>,
-    flights: &mut KnownFlights,
-    facts: &mut FactTable,
-) -> Fact
-    requires rules { board.now.rules ≡ frame.now.rules }
-    requires movers { Last.only_movers_win frame.now.rules ≡ true }
-    requires only { OnSome checks.now (Last.only_checks_win frame.now.rules ≡ true) }
-    requires known { IfSome checks.now (λ checks. AreChecksIn board.now checks) }
-    requires flights { AreFlights board.now flights.old }
-    requires attack { In.IsAttackIn frame.now board.now.position }
-    requires moves { Tried.HoldsWins frame.now board.now.position moves.now }
-    ensures kept { facts.new ≡ facts.old }
-    ensures serves { Answers board.now 1 result }
-    ensures truth { IsTrueIn frame.now result }
-{
-    let p = board.position();
-    match winning_move(alloc, frame, board, moves, checks, flights, facts) {
-        Some(chosen) => win_in_one(frame, p, chosen),
-        None => refuted_by_all_within(frame, p, 0),
-    }
 }

@@ -7,22 +7,20 @@ ghost use Rattle.rules_model.specs.declared.moves.Move.{Move};
 ghost use Rattle.rules_model.specs.Legal.{is_stuck};
 ghost use Rattle.check_moves.specs.Checks.{AreChecksIn};
 ghost use Rattle.check_moves.specs.Flights.{AreFlights};
-ghost use Rattle.mate_core.specs.Runs.{IsTrueIn};
-ghost use Rattle.mate_fact.specs.InFrame as In;
-ghost use Rattle.mate_settle.specs.Known.{Answers};
 ghost use Rattle.mate_settle.specs.LastMoves as Last;
 ghost use Rattle.mate_settle.specs.Tried as Tried;
 ghost use Rattle.mate_settle.specs.Refuters.{IsRefuter};
+ghost use Rattle.mate_settle.specs.Steps as Steps;
+ghost use Rattle.mate_settle.specs.Tellings.{IsTold};
 ghost use Rattle.rules_model.specs.Sides.{same_side};
 
 use crate::fact_table::{FactTable, REFUTERS};
-use crate::last_moves::{
-    by_last_move, only_movers_win, refuted_in_one, winning_checks, winning_move,
-};
-use crate::settling::{known_now, legal_list};
+use crate::last_moves::{only_movers_win, winning_checks, winning_move};
+use crate::settling::legal_list;
+use crate::told::{Told, told_of_end};
 use check_moves::{Checks, KnownFlights, push_checks};
-use mate_core::{Fact, Frame};
-use mate_fact::end_of;
+use mate_core::Frame;
+use mate_fact::{by_move_within, end_of};
 use playing::Board;
 use rules_model::{Memory, Move, MoveList, Outcome};
 use std::alloc::Global;
@@ -65,43 +63,27 @@ fn some_legal(board: &Board, moves: &[Move]) -> bool
     true
 }
 
-/// Whether the attacker, who is to move, wins by one move: a true fact that says it; or `Memory`.
+/// What is told of a position by the attacker's last move, and that move where he wins by it.
+#[derive(Clone, Copy)]
+struct LastMove {
+    told: Told,
+    chosen: Option<Move>,
+}
+
+/// Whether the attacker, who is to move, wins by one move; or `Memory`. It makes no fact, which costs as much as a
+/// list.
 fn by_one_move(
     alloc: Global,
     frame: &Frame,
     board: &Board,
     facts: &mut FactTable,
-) -> Result<Fact, Memory>
+) -> Result<LastMove, Memory>
     requires rules { board.now.rules ≡ frame.now.rules }
     requires movers { Last.only_movers_win frame.now.rules ≡ true }
     requires turn { same_side board.now.position.side frame.now.attacker ≡ true }
     ensures kept { facts.new ≡ facts.old }
-    ensures truth { IfOk result (IsTrueIn frame.now) }
-    ensures serves { IfOk result (Answers board.now 1) }
-{
-    let checks = winning_checks(frame, board);
-    let mut flights = KnownFlights::of(board);
-    let moves = last_moves(alloc, board, &checks, &mut flights)?;
-    let list = moves.items.as_slice();
-    match known_now(frame, board, 1, some_legal(board, list)) {
-        Some(fact) => Ok(fact),
-        None => Ok(by_last_move(alloc, frame, board, list, &checks, &mut flights, facts)),
-    }
-}
-
-/// Whether the attacker, who is to move, wins by one move; or `Memory`. It makes no fact, which costs as much as a
-/// list.
-fn wins_by_one(
-    alloc: Global,
-    frame: &Frame,
-    board: &Board,
-    facts: &mut FactTable,
-) -> Result<bool, Memory>
-    requires rules { board.now.rules ≡ frame.now.rules }
-    requires movers { Last.only_movers_win frame.now.rules ≡ true }
-    requires turn { same_side board.now.position.side frame.now.attacker ≡ true }
-    ensures kept { facts.new ≡ facts.old }
-    ensures won { IfOk result (λ won. won ≡ In.near_in frame.now 1 board.now.position) }
+    ensures told { IfOk result (λ last. IsTold frame.now board.now.position 1 last.told) }
+    ensures wins { IfOk result (λ last. IfSome last.chosen (Steps.Decides frame.now board.now.position true 0)) }
 {
     let checks = winning_checks(frame, board);
     let mut flights = KnownFlights::of(board);
@@ -109,10 +91,17 @@ fn wins_by_one(
     let list = moves.items.as_slice();
     let own = board.end_where(some_legal(board, list));
     match end_of(frame, board.position(), own) {
-        Some(won) => Ok(won),
+        Some(won) => Ok(LastMove {
+            told: told_of_end(won),
+            chosen: None,
+        }),
         None => {
-            let found = winning_move(alloc, frame, board, list, &checks, &mut flights, facts);
-            Ok(found.is_some())
+            let chosen = winning_move(alloc, frame, board, list, &checks, &mut flights, facts);
+            let told = Told {
+                wins: chosen.is_some(),
+                moves: 1,
+            };
+            Ok(LastMove { told, chosen })
         }
     }
 }
@@ -139,8 +128,8 @@ fn refutes(
         return Ok(false);
     }
     let next = board.asked_after(&reply);
-    let won = wins_by_one(alloc, frame, &next, facts)?;
-    Ok(!won)
+    let last = by_one_move(alloc, frame, &next, facts)?;
+    Ok(!last.told.wins)
 }
 
 /// Of the replies that refuted such positions last, the newest that refutes this one, where the attacker has one move
@@ -164,46 +153,56 @@ fn last_refuter(alloc: Global, board: &Board, facts: &mut FactTable) -> Result<O
     Ok(None)
 }
 
-/// The refutation of a position before the attacker's last move by a reply that refuted such a position lately, if one
-/// does: no list of moves is made. Or `Memory`.
+/// Whether the attacker does not win by his last move, since a reply that refuted such a position lately refutes this
+/// one: no list of moves is made. Or `Memory`.
 #[inline(never)]
 fn refuted_again(
     alloc: Global,
     board: &Board,
     facts: &mut FactTable,
-) -> Result<Option<Fact>, Memory>
+) -> Result<Option<Told>, Memory>
     requires rules { board.now.rules ≡ facts.old.rules }
     requires movers { Last.only_movers_win facts.old.rules ≡ true }
     requires turn { same_side board.now.position.side facts.old.attacker ≡ false }
     ensures frame { facts.new ≡ facts.old }
-    ensures truth { IfOk result (λ o. IfSome o (IsTrueIn facts.old)) }
-    ensures serves { IfOk result (λ o. IfSome o (Answers board.now 1)) }
+    ensures told { IfOk result (λ o. IfSome o (IsTold facts.old board.now.position 1)) }
 {
     match last_refuter(alloc, board, facts)? {
         Some(reply) => {
             facts.keep_refuter(reply);
-            Ok(Some(refuted_in_one(facts.frame(), board.position(), reply)))
+            Ok(Some(Told {
+                wins: false,
+                moves: 1,
+            }))
         }
         None => Ok(None),
     }
 }
 
-/// The attacker's last move, where only movers win: a true fact that says whether he wins by it; or `Memory`. A win is
-/// kept.
+/// Keeps the win of a position by the attacker's last move.
 #[inline(never)]
-fn settled_last(alloc: Global, board: &Board, facts: &mut FactTable) -> Result<Fact, Memory>
+fn keep_last(board: &Board, chosen: &Move, facts: &mut FactTable)
+    requires wins { Steps.Decides facts.old board.now.position true 0 chosen.now }
+    ensures { facts.new ≡ facts.old }
+{
+    let fact = by_move_within(facts.frame(), board.position(), chosen, 0);
+    facts.keep(board, fact);
+}
+
+/// The attacker's last move, where only movers win: whether he wins by it; or `Memory`. A win is kept.
+#[inline(never)]
+fn settled_last(alloc: Global, board: &Board, facts: &mut FactTable) -> Result<Told, Memory>
     requires rules { board.now.rules ≡ facts.old.rules }
     requires movers { Last.only_movers_win facts.old.rules ≡ true }
     requires turn { same_side board.now.position.side facts.old.attacker ≡ true }
     ensures frame { facts.new ≡ facts.old }
-    ensures truth { IfOk result (IsTrueIn facts.old) }
-    ensures serves { IfOk result (Answers board.now 1) }
+    ensures told { IfOk result (IsTold facts.old board.now.position 1) }
 {
-    let found = by_one_move(alloc, facts.frame(), board, facts)?;
-    if found.wins {
-        facts.keep(board, found);
+    let last = by_one_move(alloc, facts.frame(), board, facts)?;
+    if let Some(chosen) = last.chosen {
+        keep_last(board, &chosen, facts);
     }
-    Ok(found)
+    Ok(last.told)
 }
 
 /// What is known of a position before its moves are listed: by a kept fact; or, where the attacker has one move left,
@@ -213,19 +212,18 @@ pub(crate) fn known_before(
     board: &Board,
     n: u16,
     facts: &mut FactTable,
-) -> Result<Option<Fact>, Memory>
+) -> Result<Option<Told>, Memory>
     requires rules { board.now.rules ≡ facts.old.rules }
     ensures frame { facts.new ≡ facts.old }
-    ensures truth { IfOk result (λ o. IfSome o (IsTrueIn facts.old)) }
-    ensures serves { IfOk result (λ o. IfSome o (Answers board.now n)) }
+    ensures told { IfOk result (λ o. IfSome o (IsTold facts.old board.now.position n)) }
 {
     let frame = facts.frame();
     let is_last = n == 1 && only_movers_win(&frame.rules);
     if is_last && board.position().side.is(frame.attacker) {
-        let found = settled_last(alloc, board, facts)?;
-        return Ok(Some(found));
+        let told = settled_last(alloc, board, facts)?;
+        return Ok(Some(told));
     }
-    let known = facts.look(board, n);
+    let known = facts.told(board, n);
     if known.is_some() || !is_last {
         return Ok(known);
     }

@@ -8,9 +8,11 @@ mod last_moves;
 mod last_replies;
 mod ordering;
 mod settling;
+mod told;
 mod weighing;
 
 pub use choosing::{WinningMove, all_won, choose};
 pub use fact_table::FactTable;
-pub use settling::{decide, known_now, moves_to_try, settle};
+pub use settling::{decide, keep_now, moves_to_try, settle};
+pub use told::Told;
 pub use weighing::{WeighedMove, weighed_moves};

@@ -4,9 +4,11 @@ ghost use Rattle.foundation.specs.Member.{Member, Lists};
 ghost use Rattle.forced_wins.specs.Facts as Facts;
 ghost use Rattle.mate_core.specs.Runs.{IsTrueIn};
 ghost use Rattle.mate_fact.specs.InFrame as In;
+ghost use Rattle.mate_settle.specs.Choices.{lines_of_turn};
 ghost use Rattle.mate_settle.specs.Known.{Answers};
 ghost use Rattle.mate_settle.specs.Lines.{lines_within, seen_in};
 ghost use Rattle.mate_settle.specs.Steps as Steps;
+ghost use Rattle.mate_settle.specs.Tellings.{IsTold};
 ghost use Rattle.legality.specs.Stance.{after, legal_in, repeat_in};
 ghost use Rattle.rules_model.specs.Legal.{is_stuck};
 ghost use Rattle.rules_model.specs.Sides.{same_side};
@@ -16,10 +18,11 @@ use crate::fact_table::FactTable;
 use crate::last_moves::only_movers_win;
 use crate::last_replies::known_before;
 use crate::ordering::{comer, in_order};
+use crate::told::Told;
 use mate_core::{Fact, Frame};
 use mate_fact::{
-    by_all_within, by_move, end_of, refuted_by_all_within, refuted_by_move, refuted_where,
-    won_where,
+    by_all_within, by_move_within, end_of, refuted_by_all_within, refuted_by_move_within,
+    refuted_where, won_where,
 };
 use playing::Board;
 use rules_model::{Memory, Move, MoveList, Position};
@@ -65,7 +68,7 @@ pub fn moves_to_try(
 
 /// The fact that needs no other: the position is ended, or the attacker, who is to move, has no move left. `any` says
 /// whether some move is legal.
-pub fn known_now(frame: &Frame, board: &Board, n: u16, any: bool) -> Option<Fact>
+fn known_now(frame: &Frame, board: &Board, n: u16, any: bool) -> Option<Fact>
     requires rules { board.now.rules ≡ frame.now.rules }
     requires any { any ≡ not (is_stuck board.now.rules (repeat_in board.now)) }
     ensures serves { IfSome result (Answers board.now n) }
@@ -113,22 +116,15 @@ fn farther(attacking: bool, far: u16, moves: u16) -> u16
 }
 
 /// What a single move decides.
-fn by_one(frame: &Frame, board: &Board, m: &Move, attacking: bool, known: &Fact) -> Fact
-    requires ongoing { In.end_in frame.now board.now.position ≡ None }
-    requires turn { same_side board.now.position.side frame.now.attacker ≡ attacking }
-    requires legal { Member m.now (In.legal_in frame.now board.now.position) }
-    requires serves { In.ServesMoveIn frame.now board.now.position m.now attacking known.now }
-    requires short { attacking ≡ true → known.now.moves < 65535 }
-    requires truth { IsTrueIn frame.now known.now }
-    ensures is { result ≡ Facts.fact_of board.now.position frame.now.attacker
-        (Steps.after_one attacking known.now.moves) (Some m.now) attacking }
-    ensures truth { IsTrueIn frame.now result }
+fn by_one(frame: &Frame, p: &Position, m: &Move, attacking: bool, moves: u16) -> Fact
+    requires decides { Steps.Decides frame.now p.now attacking moves m.now }
+    requires short { attacking ≡ true → moves < 65535 }
+    ensures { IsTrueIn frame.now result }
 {
-    let p = board.position();
     if attacking {
-        by_move(frame, board.tables(), p, m, known)
+        by_move_within(frame, p, m, moves)
     } else {
-        refuted_by_move(frame, board.tables(), p, m, known)
+        refuted_by_move_within(frame, p, m, moves)
     }
 }
 
@@ -149,20 +145,37 @@ fn learn(facts: &mut FactTable, board: &Board, attacking: bool, n: u16, chosen: 
     }
 }
 
-/// Keeps the fact, unless it says that a reply refutes the attacker's last move: that is found again as fast, and would
-/// push out facts that are not.
-fn keep_dear(facts: &mut FactTable, board: &Board, n: u16, fact: Fact)
-    requires { IsTrueIn facts.old fact }
+/// Keeps what one move decides, unless it is that a reply refutes the attacker's last move: that is found again as
+/// fast, and would push out facts that are not.
+#[inline(never)]
+fn keep_one(
+    facts: &mut FactTable,
+    board: &Board,
+    attacking: bool,
+    n: u16,
+    chosen: &Move,
+    moves: u16,
+)
+    requires decides { Steps.Decides facts.old board.now.position attacking moves chosen.now }
+    requires short { attacking ≡ true → moves < 65535 }
     ensures { facts.new ≡ facts.old }
 {
     if n == 1 && only_movers_win(&facts.frame().rules) {
         return;
     }
+    let fact = by_one(facts.frame(), board.position(), chosen, attacking, moves);
     facts.keep(board, fact);
 }
 
-/// What one move decides, where the known fact on the position after it is what the side to move wants: a fact that
-/// answers for the position. The fact is kept where it is dear, and so is the move.
+fn moves_by_one(attacking: bool, moves: u16) -> u16
+    requires { attacking ≡ true → moves < 65535 }
+    ensures { result ≡ Steps.after_one attacking moves }
+{
+    if attacking { moves + 1 } else { moves }
+}
+
+/// What one move decides, where the position after it is as the side to move wants it. The fact is kept where it is
+/// dear, and so is the move.
 #[inline]
 pub fn decide(
     facts: &mut FactTable,
@@ -170,25 +183,25 @@ pub fn decide(
     attacking: bool,
     n: u16,
     chosen: Move,
-    known: &Fact,
-) -> Fact
+    known: Told,
+) -> Told
     requires rules { board.now.rules ≡ facts.old.rules }
     requires ongoing { In.end_in facts.old board.now.position ≡ None }
     requires turn { same_side board.now.position.side facts.old.attacker ≡ attacking }
     requires legal { Member chosen (legal_in board.now) }
     requires some { attacking ≡ true → 0 < n }
     requires small { n ≤ 1000 }
-    requires truth { IsTrueIn facts.old known.now }
-    requires serves { Answers (after board.now chosen) (Steps.left_after attacking n) known.now }
-    requires wins { known.now.wins ≡ attacking }
+    requires told { IsTold facts.old (after board.now chosen).position (Steps.left_after attacking n) known }
+    requires wins { known.wins ≡ attacking }
     ensures frame { facts.new ≡ facts.old }
-    ensures truth { IsTrueIn facts.old result }
-    ensures serves { Answers board.now n result }
+    ensures told { IsTold facts.old board.now.position n result }
 {
-    let found = by_one(facts.frame(), board, &chosen, attacking, known);
     learn(facts, board, attacking, n, chosen);
-    keep_dear(facts, board, n, found);
-    found
+    keep_one(facts, board, attacking, n, &chosen, known.moves);
+    Told {
+        wins: attacking,
+        moves: moves_by_one(attacking, known.moves),
+    }
 }
 
 /// What all moves together decide.
@@ -206,51 +219,108 @@ fn by_each(frame: &Frame, p: &Position, attacking: bool, far: u16) -> Fact
     }
 }
 
-/// Whether the attacker wins from the position within n of his moves, the position being looked at without its history:
-/// a true fact that says it.
+/// Keeps what all moves together decide, and tells it.
+#[inline(never)]
+fn keep_each(facts: &mut FactTable, board: &Board, attacking: bool, n: u16, far: u16) -> Told
+    requires ongoing { In.end_in facts.old board.now.position ≡ None }
+    requires turn { same_side board.now.position.side facts.old.attacker ≡ attacking }
+    requires none { Steps.NoneDecides facts.old board.now.position attacking far
+        (In.legal_in facts.old board.now.position) }
+    requires far { Steps.IsFar attacking (Steps.left_after attacking n) far }
+    requires small { n ≤ 1000 }
+    ensures frame { facts.new ≡ facts.old }
+    ensures told { IsTold facts.old board.now.position n result }
+{
+    let found = by_each(facts.frame(), board.position(), attacking, far);
+    let told = Told::of(&found);
+    facts.keep(board, found);
+    told
+}
+
+/// Keeps the fact that needs no other, if there is one, and tells it.
+#[inline(never)]
+pub fn keep_now(facts: &mut FactTable, board: &Board, n: u16, any: bool) -> Option<Told>
+    requires rules { board.now.rules ≡ facts.old.rules }
+    requires any { any ≡ not (is_stuck board.now.rules (repeat_in board.now)) }
+    ensures frame { facts.new ≡ facts.old }
+    ensures told { IfSome result (IsTold facts.old board.now.position n) }
+    ensures ongoing { result ≡ None → In.end_in facts.old board.now.position ≡ None }
+    ensures more { result ≡ None → same_side board.now.position.side facts.old.attacker ≡ true → 0 < n }
+{
+    match known_now(facts.frame(), board, n, any) {
+        Some(fact) => {
+            let told = Told::of(&fact);
+            facts.keep(board, fact);
+            Some(told)
+        }
+        None => None,
+    }
+}
+
+/// Whether the attacker wins from the position within n of his moves, the position being looked at without its history.
 ///
 /// # Errors
 ///
 /// What ends the watch; or `Memory`.
+#[cycle(settle)]
 pub fn settle<W: Watch>(
     alloc: Global,
     board: &Board,
     n: u16,
     facts: &mut FactTable,
     watch: &mut W,
-) -> Result<Fact, Halt>
+) -> Result<Told, Halt>
     requires rules { board.now.rules ≡ facts.old.rules }
     requires small { n ≤ 1000 }
     ensures frame { facts.new ≡ facts.old }
-    ensures truth { IfOk result (IsTrueIn facts.old) }
-    ensures serves { IfOk result (Answers board.now n) }
+    ensures told { IfOk result (IsTold facts.old board.now.position n) }
     ensures gone { OnOk result (W.gone watch.old watch.new (lines_within (seen_in facts.old) n board.now.position)) }
     ensures ended { (why : Halt) → IsErrOf result why →
         W.ended watch.old watch.new (lines_within (seen_in facts.old) n board.now.position) why }
 {
     watch.enter()?;
-    let frame = facts.frame();
     if let Some(told) = known_before(alloc, board, n, facts)? {
         return Ok(told);
     }
     let moves = moves_to_try(alloc, board, n, facts)?;
-    if let Some(fact) = known_now(frame, board, n, !moves.is_empty()) {
-        facts.keep(board, fact);
-        return Ok(fact);
+    if let Some(told) = keep_now(facts, board, n, !moves.is_empty()) {
+        return Ok(told);
     }
-    let attacking = board.position().side.is(frame.attacker);
+    by_moves(alloc, board, n, moves.as_slice(), facts, watch)
+}
+
+/// The same by the legal moves, each once, of a position that goes on.
+#[cycle(settle)]
+fn by_moves<W: Watch>(
+    alloc: Global,
+    board: &Board,
+    n: u16,
+    moves: &[Move],
+    facts: &mut FactTable,
+    watch: &mut W,
+) -> Result<Told, Halt>
+    requires rules { board.now.rules ≡ facts.old.rules }
+    requires small { n ≤ 1000 }
+    requires ongoing { In.end_in facts.old board.now.position ≡ None }
+    requires more { same_side board.now.position.side facts.old.attacker ≡ true → 0 < n }
+    requires listed { Lists (λ m. Member m (legal_in board.now)) moves.now }
+    ensures frame { facts.new ≡ facts.old }
+    ensures told { IfOk result (IsTold facts.old board.now.position n) }
+    ensures gone { OnOk result (W.gone watch.old watch.new (lines_of_turn facts.old n board.now.position)) }
+    ensures ended { (why : Halt) → IsErrOf result why →
+        W.ended watch.old watch.new (lines_of_turn facts.old n board.now.position) why }
+{
+    let attacking = board.position().side.is(facts.frame().attacker);
     let left = moves_left(attacking, n);
     let mut far = none_yet(attacking);
     for i in 0..moves.len() {
         let chosen = moves[i];
         let next = board.after(&chosen);
-        let fact = settle(alloc, &next, left, facts, watch)?;
-        if fact.wins == attacking {
-            return Ok(decide(facts, board, attacking, n, chosen, &fact));
+        let told = settle(alloc, &next, left, facts, watch)?;
+        if told.wins == attacking {
+            return Ok(decide(facts, board, attacking, n, chosen, told));
         }
-        far = farther(attacking, far, fact.moves);
+        far = farther(attacking, far, told.moves);
     }
-    let found = by_each(frame, board.position(), attacking, far);
-    facts.keep(board, found);
-    Ok(found)
+    Ok(keep_each(facts, board, attacking, n, far))
 }

@@ -4,9 +4,8 @@ use Rattle.std.specs.List.{All}
 use Rattle.foundation.specs.Member.{Lists, Member}
 use Rattle.legality.specs.Stance.{Stance, after, legal_in}
 use Rattle.mate_core.specs.declared.frame.Frame.{Frame}
-use Rattle.mate_core.specs.Runs.{IsTrueIn}
-use Rattle.mate_settle.specs.Known.{Answers}
 use Rattle.mate_settle.specs.Steps.{left_after}
+use Rattle.mate_settle.specs.Tellings.{IsTold}
 use Rattle.mate_tree.specs.declared.growing.Step.{Step}
 use Rattle.mate_tree.specs.declared.node.Node.{Node, out-Node}
 use Rattle.mate_tree.specs.Numbers.{IsNumbered}
@@ -54,12 +53,11 @@ pub record AreLeavesOf (s : Stance) (vs : List Node) : Type 0 where
 abbrev pub left_at : Frame → ℕ → Position → ℕ
 left_at f n p = left_after (same_side p.side f.attacker) n
 
--- a legal move, and a true fact that answers after it
+-- a legal move, and what is told of the position after it
 pub record IsStep (f : Frame) (s : Stance) (n : ℕ) (step : Step) : Type 0 where
   pub legal : Member step.chosen (legal_in s)
-  pub truth : IsTrueIn f step.fact
-  pub serves : Answers (after s step.chosen) (left_at f n s.position) step.fact
+  pub told : IsTold f (after s step.chosen).position (left_at f n s.position) step.told
 
--- the attacker has two moves left, or one after a reply
+-- the attacker has at most two moves left where he is to move, else at most one
 abbrev pub is_last : Bool → ℕ → Bool
 is_last attacking n = nat_lt n 2 || attacking && n == 2

@@ -1,7 +1,6 @@
 -- How many nodes a tree may still enter: as many as there are lines, for each ply that is left.
 use Rattle.std.specs.Prelude.{ℕ, ◌+◌, ◌-◌, ◌*◌, ◌≤◌, List, Option, Some, None, if◌then◌else◌, map}
 use Rattle.std.specs.List.{sum_by}
-use Rattle.forced_wins.specs.declared.fact.Fact.{Fact}
 use Rattle.mate_core.specs.declared.frame.Frame.{Frame}
 use Rattle.mate_settle.specs.Lines.{lines_within, plies, seen_in}
 use Rattle.mate_tree.specs.declared.node.Node.{Node}
@@ -52,6 +51,6 @@ abbrev pub Leaves : (ℕ → Type 0) → ℕ → ℕ → Type 0
 Leaves gone before after = (after ≤ before) × gone (before - after)
 
 -- the same for a node; where it is settled nothing is left
-abbrev pub Spends : (ℕ → Type 0) → ℕ → ℕ → Option Fact → Type 0
+abbrev pub Spends : {X : Type 0} → (ℕ → Type 0) → ℕ → ℕ → Option X → Type 0
 Spends gone before after None = Leaves gone before after
-Spends gone before after (Some fact) = gone before
+Spends gone before after (Some settled) = gone before

@@ -2,9 +2,8 @@
 ghost use Rattle.std.specs.Prelude.{◌≡◌, ◌≤◌, true, false, IfOk, IfSome, OnOk, IsErrOf};
 ghost use Rattle.foundation.specs.Member.{Member};
 ghost use Rattle.legality.specs.Stance.{legal_in};
-ghost use Rattle.mate_core.specs.Runs.{IsTrueIn};
-ghost use Rattle.mate_settle.specs.Known.{Answers};
 ghost use Rattle.mate_settle.specs.Steps as Steps;
+ghost use Rattle.mate_settle.specs.Tellings.{IsTold};
 ghost use Rattle.rules_model.specs.Sides.{same_side};
 ghost use Rattle.mate_tree.specs.Shapes as Shapes;
 ghost use Rattle.mate_tree.specs.Weights as Weights;
@@ -13,18 +12,17 @@ ghost use Rattle.watching.specs.declared.halt.Halt.{Halt};
 use crate::node::{Node, renumber};
 use crate::numbers::best_child;
 use crate::opening::open;
-use mate_core::Fact;
-use mate_settle::{FactTable, decide, known_now, settle};
+use mate_settle::{FactTable, Told, decide, keep_now, settle};
 use playing::Board;
 use rules_model::Move;
 use std::alloc::Global;
 use watching::{Halt, Watch};
 
-/// A move of a position, and the fact that settles the position after it.
+/// A move of a position, and what is told of the position after it.
 #[derive(Clone, Copy)]
 pub struct Step {
     pub chosen: Move,
-    pub fact: Fact,
+    pub told: Told,
 }
 
 /// How many moves the attacker has left after a move.
@@ -34,27 +32,26 @@ fn left_after(attacking: bool, n: u16) -> u16
     if attacking { n.saturating_sub(1) } else { n }
 }
 
-/// The fact on a position of which one move is known to lead where the side to move wants.
-fn by_step(facts: &mut FactTable, board: &Board, attacking: bool, n: u16, step: &Step) -> Fact
+/// What is told of a position of which one move is known to lead where the side to move wants.
+fn by_step(facts: &mut FactTable, board: &Board, attacking: bool, n: u16, step: &Step) -> Told
     requires rules { board.now.rules ≡ facts.old.rules }
     requires turn { same_side board.now.position.side facts.old.attacker ≡ attacking }
     requires small { n ≤ 1000 }
     requires step { Shapes.IsStep facts.old board.now n step.now }
-    requires wins { step.now.fact.wins ≡ attacking }
+    requires wins { step.now.told.wins ≡ attacking }
     ensures frame { facts.new ≡ facts.old }
-    ensures truth { IsTrueIn facts.old result }
-    ensures serves { Answers board.now n result }
+    ensures told { IsTold facts.old board.now.position n result }
 {
-    if let Some(told) = known_now(facts.frame(), board, n, true) {
+    if let Some(told) = keep_now(facts, board, n, true) {
         return told;
     }
-    decide(facts, board, attacking, n, step.chosen, &step.fact)
+    decide(facts, board, attacking, n, step.chosen, step.told)
 }
 
 /// Grows a tree by one leaf. The attacker has n moves left in the position, and the children are nodes for moves of it,
 /// as `leaves_of` makes them. The child by which the way goes on to the leaf that proves most is looked at: where its
-/// position is settled it is taken out, and its move is answered with the fact. A child whose move is not legal is
-/// taken out without an answer. The nodes that are made are taken from the room, down to 0.
+/// position is settled it is taken out, and its move is answered with what is told of it. A child whose move is not
+/// legal is taken out without an answer. The nodes that are made are taken from the room, down to 0.
 ///
 /// # Errors
 ///
@@ -92,16 +89,16 @@ pub fn grow_child<W: Watch>(
     let next = board.after(&chosen);
     let left = left_after(attacking, n);
     match grow(alloc, &next, left, &mut children[at], room, facts, watch)? {
-        Some(fact) => {
+        Some(told) => {
             let _settled = children.remove(at);
-            Ok(Some(Step { chosen, fact }))
+            Ok(Some(Step { chosen, told }))
         }
         None => Ok(None),
     }
 }
 
-/// Grows the tree below a node by one leaf. A fact, where that settles the node's position, which the board is: whether
-/// the attacker wins from it within n moves.
+/// Grows the tree below a node by one leaf. Where that settles the node's position, which the board is: whether the
+/// attacker wins from it within n moves.
 ///
 /// # Errors
 ///
@@ -115,13 +112,12 @@ fn grow<W: Watch>(
     room: &mut u64,
     facts: &mut FactTable,
     watch: &mut W,
-) -> Result<Option<Fact>, Halt>
+) -> Result<Option<Told>, Halt>
     requires rules { board.now.rules ≡ facts.old.rules }
     requires small { n ≤ 1000 }
     ensures frame { facts.new ≡ facts.old }
     ensures chosen { OnOk result (Shapes.chosen_at node.new ≡ Shapes.chosen_at node.old) }
-    ensures truth { IfOk result (λ o. IfSome o (IsTrueIn facts.old)) }
-    ensures serves { IfOk result (λ o. IfSome o (Answers board.now n)) }
+    ensures told { IfOk result (λ o. IfSome o (IsTold facts.old board.now.position n)) }
     ensures gone { IfOk result (Weights.Spends (W.gone watch.old watch.new)
         (Weights.lines_at facts.old n board.now.position node.old)
         (Weights.lines_at facts.old n board.now.position node.new)) }
@@ -133,13 +129,13 @@ fn grow<W: Watch>(
     }
     let attacking = board.position().side.is(facts.frame().attacker);
     if let Some(step) = grow_child(alloc, board, n, &mut node.children, room, facts, watch)? {
-        if step.fact.wins == attacking {
+        if step.told.wins == attacking {
             return Ok(Some(by_step(facts, board, attacking, n, &step)));
         }
     }
     if node.children.is_empty() {
-        let fact = settle(alloc, board, n, facts, watch)?;
-        return Ok(Some(fact));
+        let told = settle(alloc, board, n, facts, watch)?;
+        return Ok(Some(told));
     }
     renumber(node, attacking);
     Ok(None)

@@ -1,14 +1,12 @@
 //! Leaves of a tree, and what becomes of one that is opened.
 ghost use Rattle.std.specs.Prelude.{◌≡◌, ◌≤◌, false, IfOk, IfSome, OnOk, IsErrOf};
-ghost use Rattle.mate_core.specs.Runs.{IsTrueIn};
-ghost use Rattle.mate_settle.specs.Known.{Answers};
+ghost use Rattle.mate_settle.specs.Tellings.{IsTold};
 ghost use Rattle.mate_tree.specs.Shapes as Shapes;
 ghost use Rattle.mate_tree.specs.Weights as Weights;
 ghost use Rattle.watching.specs.declared.halt.Halt.{Halt};
 
 use crate::node::{Node, leaf, open_with};
-use mate_core::Fact;
-use mate_settle::{FactTable, known_now, settle, weighed_moves};
+use mate_settle::{FactTable, Told, keep_now, settle, weighed_moves};
 use playing::Board;
 use rules_model::Memory;
 use std::alloc::Global;
@@ -44,15 +42,16 @@ pub fn leaves_of(
     Ok(leaves)
 }
 
-// Whether such a position is settled at once and not opened: the attacker has two moves left, or one after a reply.
+// Whether such a position is settled at once and not opened: the attacker has at most two moves left where he is to
+// move, else at most one.
 fn is_last(attacking: bool, n: u16) -> bool
     ensures { result ≡ Shapes.is_last attacking n }
 {
     n < 2 || (attacking && n == 2)
 }
 
-/// Looks at a node for the first time. A fact, where that settles it: by the last moves, by what is known of its
-/// position, or by its end. Else it has a leaf for each legal move, and they are taken from the room.
+/// Looks at a node for the first time. What is told of it, where that settles it: by the last moves, by what is known of
+/// its position, or by its end. Else it has a leaf for each legal move, and they are taken from the room.
 ///
 /// # Errors
 ///
@@ -65,14 +64,13 @@ pub(crate) fn open<W: Watch>(
     room: &mut u64,
     facts: &mut FactTable,
     watch: &mut W,
-) -> Result<Option<Fact>, Halt>
+) -> Result<Option<Told>, Halt>
     requires rules { board.now.rules ≡ facts.old.rules }
     requires small { n ≤ 1000 }
     requires closed { Shapes.is_opened node.old ≡ false }
     ensures frame { facts.new ≡ facts.old }
     ensures chosen { OnOk result (Shapes.chosen_at node.new ≡ Shapes.chosen_at node.old) }
-    ensures truth { IfOk result (λ o. IfSome o (IsTrueIn facts.old)) }
-    ensures serves { IfOk result (λ o. IfSome o (Answers board.now n)) }
+    ensures told { IfOk result (λ o. IfSome o (IsTold facts.old board.now.position n)) }
     ensures gone { IfOk result (Weights.Spends (W.gone watch.old watch.new)
         (Weights.lines_at facts.old n board.now.position node.old)
         (Weights.lines_at facts.old n board.now.position node.new)) }
@@ -81,17 +79,16 @@ pub(crate) fn open<W: Watch>(
 {
     let attacking = board.position().side.is(facts.frame().attacker);
     if is_last(attacking, n) {
-        let fact = settle(alloc, board, n, facts, watch)?;
-        return Ok(Some(fact));
+        let told = settle(alloc, board, n, facts, watch)?;
+        return Ok(Some(told));
     }
     watch.enter()?;
-    if let Some(told) = facts.look(board, n) {
+    if let Some(told) = facts.told(board, n) {
         return Ok(Some(told));
     }
     let children = leaves_of(alloc, board, n, facts)?;
-    if let Some(fact) = known_now(facts.frame(), board, n, !children.is_empty()) {
-        facts.keep(board, fact);
-        return Ok(Some(fact));
+    if let Some(told) = keep_now(facts, board, n, !children.is_empty()) {
+        return Ok(Some(told));
     }
     *room = room.saturating_sub(children.len() as u64);
     open_with(node, attacking, children);

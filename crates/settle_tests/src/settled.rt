@@ -64,9 +64,9 @@ fn won(
     let mut watch = Helper::new(&flag, None);
     let mut facts = FactTable::new(alloc, frame, room).expect(rt, "no fault");
     let by_moves = wins_by_moves(rt, alloc, board, n, &mut facts, &mut watch);
-    let fact = settle(alloc, board, n, &mut facts, &mut watch);
-    let fact = fact.ok().ok_or("halted").expect(rt, "no fault");
-    (by_moves, fact.wins)
+    let told = settle(alloc, board, n, &mut facts, &mut watch);
+    let told = told.ok().ok_or("halted").expect(rt, "no fault");
+    (by_moves, told.wins)
 }
 
 /// Asserts whether White wins from the pieces within n moves, with room for this many facts.

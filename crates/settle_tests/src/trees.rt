@@ -108,7 +108,7 @@ fn grown(
             alloc, board, n, &mut roots, &mut room, &mut facts, &mut watch,
         );
         let step = step.ok().ok_or("halted").expect(rt, "no fault");
-        last = step.map(|step| step.fact.wins);
+        last = step.map(|step| step.told.wins);
         if last == Some(true) || roots.is_empty() {
             break 'growing;
         }

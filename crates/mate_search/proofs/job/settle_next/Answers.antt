@@ -1,23 +1,22 @@
-use Rattle.std.proofs.Common.{◌≡◌, true, sym, subst}
-use Rattle.forced_wins.specs.Facts.{serves}
+use Rattle.std.proofs.Common.{◌≡◌, sym, ◌∙◌, subst}
 use Rattle.mate_core.specs.declared.frame.Frame.{Frame}
-use Rattle.mate_core.specs.declared.packed_fact.Claim.{Claim}
 use Rattle.mate_core.specs.Claims.{fact_with}
 use Rattle.mate_core.specs.Runs.{IsTrueIn}
+use Rattle.mate_fact.specs.InFrame as In
 use Rattle.rules_model.specs.declared.board.Position.{Position}
 use Rattle.rules_model.specs.Repeats.{repeat_of}
-use Rattle.mate_search.proofs.HandedLaws.{claimed_true, handed_more}
+use Rattle.mate_search.proofs.HandedLaws.{handed_more}
 use Rattle.mate_search.proofs.job.settle_next.Goals as goal
+
+pub claim_on-claim-requires : goal.claim_on-claim-requires
+claim_on-claim-requires g c =
+    let k = c.in_ok-told.told in
+    subst (λ (h : Frame). In.near_in h k.moves c.position-p.result.now ≡ k.wins) (c.requires.frame ∙ sym c.frame.ensures)
+    (subst (λ (q : Position). In.near_in c.args.facts.now k.moves q ≡ k.wins) (sym c.position-p.ensures) c.in_ok-told.ensures.told.own)
 
 pub publish_by_key-published-requires-clause-truth : goal.publish_by_key-published-requires-clause-truth
 publish_by_key-published-requires-clause-truth g c =
-    let f = c.args.race.now.shards.now.frame in
-    let k = c.in_ok-fact.fact in
-    let p = c.position-p.result.now in
-    let truth : IsTrueIn f k = subst (λ (x : Frame). IsTrueIn x k) c.requires.frame c.in_ok-fact.ensures.truth in
-    let at : Position → Type 0 = λ x. serves k (repeat_of x) x.counter c.args.task.left ≡ true in
-    let claimed = claimed_true f k p c.args.task.left truth (subst at (sym c.position-p.ensures) c.in_ok-fact.ensures.serves) in
-    subst (λ (x : Claim). IsTrueIn f (fact_with (repeat_of p) x)) (sym c.of.ensures) claimed
+    subst (λ (h : Frame). IsTrueIn h (fact_with (repeat_of c.position-p.result.now) c.claim_on-claim.result)) c.frame.ensures c.claim_on-claim.ensures
 
 pub returns-clause-handed : goal.returns-clause-handed
 returns-clause-handed g c = handed_more c.args.race.now.shards.now _ _ _

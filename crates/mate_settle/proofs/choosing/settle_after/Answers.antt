@@ -1,19 +1,28 @@
-use Rattle.std.proofs.Common.{true, refl}
+use Rattle.std.proofs.Common.{subst}
 use Rattle.std.proofs.lemmas.Result.{IfOk-weaker}
-use Rattle.mate_settle.proofs.Settled.{told-after, short-of}
+use Rattle.std.specs.Result.{IfOk}
+use Rattle.rules_model.specs.declared.board.Position.{Position}
+use Rattle.mate_settle.specs.Tellings.{IsTold}
+use Rattle.mate_settle.proofs.Settled.{after-is, told-asked}
 use Rattle.mate_settle.proofs.choosing.settle_after.Goals as goal
 
 pub returns-clause-asked : goal.returns-clause-asked
 returns-clause-asked g c =
-    let told = told-after c.args.facts.now c.args.board.now c.after-next.result c.args.chosen.now c.args.n c.settle.result c.requires.rules c.after-next.ensures c.settle.ensures.truth c.settle.ensures.serves in
-    IfOk-weaker c.settle.result _ _ (λ k t. t.asked) told
+    let f = c.args.facts.now in
+    let is = after-is f.rules f c.args.board.now c.after-next.result c.args.chosen.now c.requires.rules c.after-next.ensures in
+    let told = subst (λ (q : Position). IfOk c.settle.result (IsTold f q c.args.n)) is c.settle.ensures.told in
+    IfOk-weaker c.settle.result _ _ (λ k t. told-asked f _ c.args.n k t) told
 
 pub returns-clause-own : goal.returns-clause-own
 returns-clause-own g c =
-    let told = told-after c.args.facts.now c.args.board.now c.after-next.result c.args.chosen.now c.args.n c.settle.result c.requires.rules c.after-next.ensures c.settle.ensures.truth c.settle.ensures.serves in
+    let f = c.args.facts.now in
+    let is = after-is f.rules f c.args.board.now c.after-next.result c.args.chosen.now c.requires.rules c.after-next.ensures in
+    let told = subst (λ (q : Position). IfOk c.settle.result (IsTold f q c.args.n)) is c.settle.ensures.told in
     IfOk-weaker c.settle.result _ _ (λ k t. t.own) told
 
 pub returns-clause-short : goal.returns-clause-short
 returns-clause-short g c =
-    let told = told-after c.args.facts.now c.args.board.now c.after-next.result c.args.chosen.now c.args.n c.settle.result c.requires.rules c.after-next.ensures c.settle.ensures.truth c.settle.ensures.serves in
-    IfOk-weaker c.settle.result _ _ (λ k t e. short-of c.args.facts.now k _ c.args.n true t e refl) told
+    let f = c.args.facts.now in
+    let is = after-is f.rules f c.args.board.now c.after-next.result c.args.chosen.now c.requires.rules c.after-next.ensures in
+    let told = subst (λ (q : Position). IfOk c.settle.result (IsTold f q c.args.n)) is c.settle.ensures.told in
+    IfOk-weaker c.settle.result _ _ (λ k t. t.won) told

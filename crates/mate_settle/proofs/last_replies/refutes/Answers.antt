@@ -7,7 +7,7 @@ use Rattle.legality.specs.Stance.{Stance}
 use Rattle.mate_fact.specs.InFrame as In
 use Rattle.mate_settle.specs.Refuters.{IsRefuter}
 use Rattle.mate_settle.proofs.LastMoves.{own-ongoing, turn-back}
-use Rattle.mate_settle.proofs.Settled.{after-is}
+use Rattle.mate_settle.proofs.Settled.{after-is, told-asked}
 use Rattle.mate_settle.proofs.last_replies.refutes.Goals as goal
 
 pub end_of-ended-requires : goal.end_of-ended-requires
@@ -16,8 +16,8 @@ end_of-ended-requires c =
     let on = ap (λ (x : Rules). own_end x (repeat_of s.position)) (sym c.requires.rules) ∙ own-ongoing s.rules (repeat_of s.position) c.args.reply (c.if-not-is_legal.ensures.member.0 refl) in
     record { own = search rules }
 
-pub wins_by_one-requires-clause-turn : goal.wins_by_one-requires-clause-turn
-wins_by_one-requires-clause-turn c =
+pub by_one_move-requires-clause-turn : goal.by_one_move-requires-clause-turn
+by_one_move-requires-clause-turn c =
     let f = c.args.frame.now in
     let p = c.args.board.now.position in
     let m = c.args.reply in
@@ -30,6 +30,6 @@ returns-clause-refutes c =
     let is : IsRefuter f c.args.board.now c.args.reply = record {
       ongoing = search rules;
       legal = c.if-not-is_legal.ensures.member.0 refl;
-      lost = subst (λ (t : Stance). In.near_in f 1 t.position ≡ false) c.asked_after-next.ensures (sym c.in_ok-won.ensures.won ∙ not-true c.in_ok-won.won told);
+      lost = subst (λ (t : Stance). In.near_in f 1 t.position ≡ false) c.asked_after-next.ensures (told-asked f c.asked_after-next.result.position 1 c.in_ok-last.last.told c.in_ok-last.ensures.told ∙ not-true c.in_ok-last.last.told.wins told);
     } in
     is)

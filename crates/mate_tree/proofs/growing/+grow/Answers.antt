@@ -1,6 +1,6 @@
 use Rattle.std.proofs.Common.{◌≡◌, ◌≤◌, ◌<◌, ◌+◌, ◌-◌, true, length, get_or, set, remove, Option, Some, Err, ap, sym, ◌∙◌, subst, arith, rules}
-use Rattle.forced_wins.specs.declared.fact.Fact.{Fact}
 use Rattle.mate_core.specs.declared.frame.Frame.{Frame}
+use Rattle.mate_settle.specs.declared.told.Told.{Told}
 use Rattle.mate_settle.specs.Lines.{lines_within, seen_in}
 use Rattle.mate_tree.specs.Shapes.{chosen_at, children_at, is_opened, left_at}
 use Rattle.mate_tree.specs.Weights.{Spends, forest, lines_at}
@@ -8,8 +8,8 @@ use Rattle.mate_tree.proofs.WeightLaws.{child-same, forest-at, forest-taken, lin
 use Rattle.rules_model.specs.Next.{next}
 use Rattle.mate_tree.proofs.growing.+grow.Goals as goal
 
-pub grow_child-returns-in_err-fact-clause-ended : goal.grow_child-returns-in_err-fact-clause-ended
-grow_child-returns-in_err-fact-clause-ended g t c why is =
+pub grow_child-returns-in_err-told-clause-ended : goal.grow_child-returns-in_err-told-clause-ended
+grow_child-returns-in_err-told-clause-ended g t c why is =
     let f = c.args.facts.now in
     let n = c.args.n in
     let p = c.args.board.now.position in
@@ -39,7 +39,7 @@ grow_child-returns-in-Some-clause-gone g t c =
     let same = child-same f n p w c.left_after-left.result c.after-next.result.position left to in
     let taken = forest-taken f n p vs at w x here c.index_mut.ensures.value in
     let items : forest f n p c.remove-settled.new.self.items ≡ forest f n p (remove (set vs at x) at) = ap (forest f n p) c.remove-settled.ensures.items in
-    let spent = subst (λ (o : Option Fact). Spends (g.W.Watch.gone c.args.watch.now c.grow.new.watch) (lines_at f c.left_after-left.result c.after-next.result.position w) (lines_at f c.left_after-left.result c.after-next.result.position x) o) c.in-Some.is c.in_ok-fact.ensures.gone in
+    let spent = subst (λ (o : Option Told). Spends (g.W.Watch.gone c.args.watch.now c.grow.new.watch) (lines_at f c.left_after-left.result c.after-next.result.position w) (lines_at f c.left_after-left.result c.after-next.result.position x) o) c.in-Some.is c.in_ok-told.ensures.gone in
     (omega arith, g.met.W.Watch.wider _ _ _ _ spent (omega arith))
 
 pub grow-returns-in_err-step-clause-ended : goal.grow-returns-in_err-step-clause-ended
@@ -64,8 +64,8 @@ grow-returns-then-step-attacking-clause-gone g t c =
     let gone = c.in_ok-step.ensures.gone in
     g.met.W.Watch.wider _ _ _ _ gone.1 (omega arith)
 
-pub grow-returns-in_err-fact-clause-ended : goal.grow-returns-in_err-fact-clause-ended
-grow-returns-in_err-fact-clause-ended g t c why is =
+pub grow-returns-in_err-told-clause-ended : goal.grow-returns-in_err-told-clause-ended
+grow-returns-in_err-told-clause-ended g t c why is =
     let f = c.args.facts.now in
     let n = c.args.n in
     let p = c.args.board.now.position in
@@ -87,7 +87,7 @@ grow-returns-then-is_empty-clause-gone g t c =
     let lines = lines-opened f n p v opened in
     let gone = c.in_ok-step.ensures.gone in
     let same : lines_within (seen_in c.grow_child.new.facts) n p ≡ lines_within (seen_in f) n p = ap (λ (h : Frame). lines_within (seen_in h) n p) c.grow_child.ensures.frame in
-    g.met.W.Watch.wider _ _ _ _ (g.met.W.Watch.more _ _ _ _ _ gone.1 c.in_ok-fact.ensures.gone) (omega (arith, gone.0))
+    g.met.W.Watch.wider _ _ _ _ (g.met.W.Watch.more _ _ _ _ _ gone.1 c.in_ok-told.ensures.gone) (omega (arith, gone.0))
 
 pub grow-returns-clause-gone : goal.grow-returns-clause-gone
 grow-returns-clause-gone g t c =

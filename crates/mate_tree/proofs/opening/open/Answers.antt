@@ -7,8 +7,8 @@ use Rattle.mate_tree.specs.Weights.{lines_at}
 use Rattle.mate_tree.proofs.WeightLaws.{closed-some, closed-within, nil-listed, opened-less, some-of-last}
 use Rattle.mate_tree.proofs.opening.open.Goals as goal
 
-pub returns-in_err-fact-clause-ended : goal.returns-in_err-fact-clause-ended
-returns-in_err-fact-clause-ended g c why is =
+pub returns-in_err-told-clause-ended : goal.returns-in_err-told-clause-ended
+returns-in_err-told-clause-ended g c why is =
     let back : c.settle.result ≡ Err why = search rules in
     g.met.W.Watch.ends_wider _ _ _ _ why (c.settle.ensures.ended why back) (closed-within c.args.facts.now c.args.n c.args.board.now.position c.args.node.now c.requires.closed)
 
@@ -26,14 +26,14 @@ returns-in_err-children-clause-ended g c why is =
     let memory = g.met.W.Watch.memory _ _ _ (g.met.W.Watch.wider _ _ _ _ c.in_ok-enter.ensures.gone (closed-some c.args.facts.now c.args.n c.args.board.now.position c.args.node.now c.requires.closed)) in
     search rules
 
-pub known_now-requires-clause-any : goal.known_now-requires-clause-any
+pub keep_now-requires-clause-any : goal.keep_now-requires-clause-any
 unfolding is_stuck
-known_now-requires-clause-any g c =
+keep_now-requires-clause-any g c =
     let listed : is_nil c.in_ok-children.children.items ≡ is_stuck c.args.board.now.rules (repeat_in c.args.board.now) = nil-listed (legal_in c.args.board.now) c.in_ok-children.children.items c.in_ok-children.ensures.listed in
     search rules
 
-pub returns-in-Some-known_now-clause-gone : goal.returns-in-Some-known_now-clause-gone
-returns-in-Some-known_now-clause-gone g c =
+pub returns-in-Some-keep_now-clause-gone : goal.returns-in-Some-keep_now-clause-gone
+returns-in-Some-keep_now-clause-gone g c =
     g.met.W.Watch.wider _ _ _ _ c.in_ok-enter.ensures.gone (closed-some c.args.facts.now c.args.n c.args.board.now.position c.args.node.now c.requires.closed)
 
 pub returns-clause-gone : goal.returns-clause-gone
