@@ -2,8 +2,10 @@
 use crate::expect::expect_eq;
 use crate::helpers::frame_of;
 use attack_tables::Tables;
-use mate_fact::{refuted_now, won_by, won_now};
-use rules_model::{Cause, Outcome, Position, Side, repeat_of, sound};
+use mate_core::{Fact, serves};
+use mate_fact::{by_move, end_of, refuted_by_move, refuted_now, won_by, won_now};
+use playing::Board;
+use rules_model::{Cause, Move, Outcome, Position, Promo, Side, Square, repeat_of, sound};
 use sample_rules::position;
 use std::alloc::Global;
 use std::process::Abort;
@@ -63,4 +65,66 @@ fn ends_are_won_by_a_side(rt: HostRuntime) {
     expect_won(&rt, Outcome::Won(black, Cause::Checkmate), Some(false));
     expect_won(&rt, Outcome::Won(white, Cause::Repetition), Some(false));
     expect_won(&rt, Outcome::Drawn(Cause::Stalemate), Some(false));
+}
+
+/// The fact on the position that follows from one on the position after the move, which has this number of moves: a win
+/// where White is to move, who attacks, and else a refutation.
+fn by_one_move(rt: &impl Abort, alloc: Global, p: &Position, m: &Move, moves: u16) -> Fact {
+    assert!(rt; moves < 65535);
+    let frame = frame_of(Vec::new(alloc));
+    let tables = Tables::new(alloc, &frame.rules).expect(rt, "no fault");
+    assert!(rt; sound(&frame.rules, p));
+    let board = Board::new(&tables, p);
+    assert!(rt; board.is_legal(m));
+    let None = end_of(&frame, p, board.own_end()) else {
+        panic!(rt; "it is ended");
+    };
+    let attacking = p.side.is(frame.attacker);
+    let next = board.after(m);
+    let known = Fact {
+        repeat: repeat_of(next.position()),
+        attacker: frame.attacker,
+        moves,
+        counter: next.position().counter,
+        best: None,
+        wins: attacking,
+    };
+    assert!(rt; serves(&known, &known.repeat, known.counter, moves));
+    if attacking {
+        by_move(&frame, &tables, p, m, &known)
+    } else {
+        refuted_by_move(&frame, &tables, p, m, &known)
+    }
+}
+
+/// Asserts what a fact by one move says: for how many moves, at which counter, by that move, and whether it is a win.
+fn expect_by_one(
+    rt: &impl Abort,
+    alloc: Global,
+    p: &Position,
+    m: &Move,
+    moves: u16,
+    wanted: (u16, u16, bool),
+) {
+    let fact = by_one_move(rt, alloc, p, m, moves);
+    expect_eq(rt, (fact.moves, fact.counter, fact.wins), wanted);
+    expect_eq(rt, fact.best, Some(*m));
+}
+
+// A win by one move is one move longer; a refutation by one reply is as long.
+#[test]
+fn facts_follow_by_one_move(rt: HostRuntime) {
+    let alloc = rt.alloc();
+    let go = |from, to| Move::Go {
+        from,
+        to,
+        promo: Promo::Stays,
+        gate: None,
+    };
+    let rook = go(Square::at(0, 0), Square::at(1, 0));
+    let white = placed("Kg6 Ra1 kh8", Side::White, 7);
+    expect_by_one(&rt, alloc, &white, &rook, 2, (3, 7, true));
+    let king = go(Square::at(7, 7), Square::at(6, 7));
+    let black = placed("Kg6 Ra1 kh8", Side::Black, 7);
+    expect_by_one(&rt, alloc, &black, &king, 2, (2, 7, false));
 }
