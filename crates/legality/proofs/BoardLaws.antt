@@ -17,12 +17,13 @@ use Rattle.rules_model.specs.declared.board.Square.{Square}
 use Rattle.rules_model.specs.declared.board.Side.TheVariants.{White, Black}
 use Rattle.rules_model.specs.declared.moves.Move.{Move}
 use Rattle.rules_model.specs.declared.moves.Move.TheVariants.{Drop, Go}
-use Rattle.rules_model.specs.declared.moves.Promo.TheVariants.{Stays}
+use Rattle.rules_model.specs.declared.moves.Promo.{Promo}
+use Rattle.rules_model.specs.declared.moves.Promo.TheVariants.{Stays, Pawn, Plus}
 use Rattle.rules_model.specs.declared.rules.Rules.{Rules}
 use Rattle.rules_model.specs.Attacks.{is_own, is_own_king, king_attacked}
-use Rattle.rules_model.specs.Kinds.{is_king}
+use Rattle.rules_model.specs.Kinds.{is_king, promoted_of}
 use Rattle.rules_model.specs.Legal.{is_safe}
-use Rattle.rules_model.specs.Next.{cells_after, emptied, fresh, next_repeat, promote}
+use Rattle.rules_model.specs.Next.{after_promo, cells_after, emptied, fresh, next_repeat, plus, promote}
 use Rattle.rules_model.specs.Pawns.{behind, passes_by}
 use Rattle.rules_model.specs.Sides.{other, same_side}
 use Rattle.rules_model.specs.Squares.{cell_at, flat}
@@ -33,7 +34,7 @@ use Rattle.board_sets.specs.Sets.{AreSets}
 use Rattle.pins.proofs.DangerLaws.{HasOnlyKingOn}
 use Rattle.pins.specs.Guards.{IsMoved}
 use Rattle.sound_play.proofs.CellLemmas.{cell_at-set_other, cell_at-set_same, moved, moved-from, moved-other, moved-to}
-use Rattle.legality.specs.Moved.{IsOnly}
+use Rattle.legality.specs.Moved.{IsOnly, makes_no_king}
 use Rattle.legality.proofs.PinLaws.{any_kind, own_apart}
 
 -- ---- pieces of a side
@@ -53,6 +54,27 @@ no_king rules side (Some x) e = first_false (same_side x.side side) (is_king rul
 king_own : (rules : Rules) (side : Side) (c : Option Cell) → is_own_king rules side c ≡ true → is_own side any_kind c ≡ true
 king_own rules side None e = cc
 king_own rules side (Some x) e = let h = and_parts (same_side x.side side) (is_king rules x.kind) e in rw h.0 refl
+
+-- what a piece of the side becomes is one of the side
+
+own_plus : (side : Side) (x : Cell) (promoted : Option Kind) → is_own side any_kind (Some x) ≡ true → is_own side any_kind (Some (plus x promoted)) ≡ true
+own_plus side x None e = e
+own_plus side x (Some kind) e = e
+
+own_promoted : (rules : Rules) (side : Side) (x : Cell) (promo : Promo) → is_own side any_kind (Some x) ≡ true → is_own side any_kind (Some (after_promo rules x promo)) ≡ true
+own_promoted rules side x Stays e = e
+own_promoted rules side x (Pawn kind) e = e
+own_promoted rules side x Plus e = own_plus side x (promoted_of rules x.kind) e
+
+second_false : (a b : Bool) → not b ≡ true → (a && b) ≡ false
+second_false true true e = cc
+second_false true false e = refl
+second_false false b e = refl
+
+mere_promoted : (rules : Rules) (side : Side) (x : Cell) (promo : Promo) → makes_no_king rules promo ≡ true → is_own_king rules side (Some x) ≡ false → is_own_king rules side (Some (after_promo rules x promo)) ≡ false
+mere_promoted rules side x Stays mere e = e
+mere_promoted rules side x (Pawn kind) mere e = second_false (same_side x.side side) (is_king rules kind) mere
+mere_promoted rules side x Plus mere e = cc
 
 -- ---- the board after a piece went from one square to another
 
@@ -165,12 +187,13 @@ module _ (rules : Rules) (r : Repeat) (sets : BoardSets) (occupied : Set) (are :
   low_occupied : (s : ℕ) → has occupied s ≡ true → s < 128
   low_occupied s e = on_squares (λ c. is_some c) r.cells s size refl (sym (are_occupied s) ∙ e)
 
-  module _ (from to : ℕ) (x : Cell) (l : from < 120) (m : to < 120) (there : cell_at r.cells from ≡ Some x) (own : has sets.own from ≡ true) (target : has sets.own to ≡ false) where
-    differ : to ≢ from
-    differ e = let f : ⊥ = (let g = subst (λ s. has sets.own s ≡ false) e target in cc) in f
+  differ : (from to : ℕ) → has sets.own from ≡ true → has sets.own to ≡ false → to ≢ from
+  differ from to own target e = let f : ⊥ = (let g = subst (λ s. has sets.own s ≡ false) e target in cc) in f
 
-    is_own_man : is_own r.side any_kind (Some x) ≡ true
-    is_own_man = ap (is_own r.side any_kind) (sym there) ∙ sym (are.own from) ∙ own
+  -- what leaves the one square stands on the other as this piece of the side
+  module _ (from to : ℕ) (x : Cell) (l : from < 120) (m : to < 120) (is_own_man : is_own r.side any_kind (Some x) ≡ true) (own : has sets.own from ≡ true) (target : has sets.own to ≡ false) where
+    apart : to ≢ from
+    apart = differ from to own target
 
     no_enemy : has sets.enemies from ≡ false
     no_enemy = are.enemies from ∙ own_apart r.side (cell_at r.cells from) (sym (are.own from) ∙ own)
@@ -178,15 +201,15 @@ module _ (rules : Rules) (r : Repeat) (sets : BoardSets) (occupied : Set) (are :
     squares_there : IsOccupied (with_moved occupied from to) (moved r.cells from to x)
     squares_there s =
         with_moved-is occupied from to low_occupied (omega (arith, l)) (omega (arith, m)) s ∙
-        by_place r.cells from to x size l m differ (λ t c. ((has occupied t && not (t == from)) || (t == to)) ≡ is_some c)
+        by_place r.cells from to x size l m apart (λ t c. ((has occupied t && not (t == from)) || (t == to)) ≡ is_some c)
         (taken_there (has occupied to) (not (to == from)) (to == to) (itself_equal to))
-        (left_there (has occupied from) (from == from) (from == to) (itself_equal from) (not_equal from to differ))
+        (left_there (has occupied from) (from == from) (from == to) (itself_equal from) (not_equal from to apart))
         (λ t e f. kept_there (has occupied t) (t == from) (t == to) e f ∙ are_occupied t) s
 
     enemies_there : AreMen (other r.side) (moved r.cells from to x) (without sets.enemies to)
     enemies_there s =
         without-is sets.enemies to low (omega (arith, m)) s ∙
-        by_place r.cells from to x size l m differ (λ t c. (has sets.enemies t && not (t == to)) ≡ is_own (other r.side) any_kind c)
+        by_place r.cells from to x size l m apart (λ t c. (has sets.enemies t && not (t == to)) ≡ is_own (other r.side) any_kind c)
         (dropped_there (has sets.enemies to) (to == to) (itself_equal to) ∙ sym (own_apart r.side (Some x) is_own_man))
         (ap (λ b. b && not (from == to)) no_enemy)
         (λ t e f. stays_there (has sets.enemies t) (t == to) f ∙ are.enemies t) s
@@ -194,7 +217,7 @@ module _ (rules : Rules) (r : Repeat) (sets : BoardSets) (occupied : Set) (are :
     same_there : (s : ℕ) → has (without sets.enemies to) s ≡ true → cell_at (moved r.cells from to x) s ≡ cell_at r.cells s
     same_there s h =
         let k = sym (without-is sets.enemies to low (omega (arith, m)) s) ∙ h in
-        by_place r.cells from to x size l m differ (λ t c. (has sets.enemies t && not (t == to)) ≡ true → c ≡ cell_at r.cells t)
+        by_place r.cells from to x size l m apart (λ t c. (has sets.enemies t && not (t == to)) ≡ true → c ≡ cell_at r.cells t)
         (λ g. absurd (let f : ⊥ = (let n = dropped_there (has sets.enemies to) (to == to) (itself_equal to) in cc) in f))
         (λ g. absurd (let f : ⊥ = (let n = ap (λ b. b && not (from == to)) no_enemy in cc) in f))
         (λ t e f g. refl) s k
@@ -202,26 +225,31 @@ module _ (rules : Rules) (r : Repeat) (sets : BoardSets) (occupied : Set) (are :
     board_there : IsBoardBy (other r.side) r.cells (without sets.enemies to) (with_moved occupied from to) (moved r.cells from to x)
     board_there = record { squares = squares_there; own = enemies_there; same = same_there }
 
-  goes : (from to : Square) (x : Cell) → cell_at r.cells from.0 ≡ Some x → passes_by rules r from to.0 ≡ false → cells_after rules r (Go from to Stays None) ≡ moved r.cells from.0 to.0 x
+  goes : (from to : Square) (promo : Promo) (x : Cell) → cell_at r.cells from.0 ≡ Some x → passes_by rules r from to.0 ≡ false → cells_after rules r (Go from to promo None) ≡ moved r.cells from.0 to.0 (after_promo rules x promo)
   unfolding cells_after
-  goes from to x there no_passing =
-      ap (λ b. slice_set (slice_set (if b then emptied r.cells (behind rules r.side to) else r.cells) from.0 None) to.0 (promote rules (cell_at r.cells from.0) Stays)) no_passing
-      ∙ ap (λ (c : Option Cell). slice_set (slice_set r.cells from.0 None) to.0 (promote rules c Stays)) there
+  goes from to promo x there no_passing =
+      ap (λ b. slice_set (slice_set (if b then emptied r.cells (behind rules r.side to) else r.cells) from.0 None) to.0 (promote rules (cell_at r.cells from.0) promo)) no_passing
+      ∙ ap (λ (c : Option Cell). slice_set (slice_set r.cells from.0 None) to.0 (promote rules c promo)) there
 
-  after_going : (from to : Square) (HasKings : List (Option Cell) → Type 0) → from.0 < 120 → to.0 < 120 → has sets.own from.0 ≡ true → has sets.own to.0 ≡ false → passes_by rules r from to.0 ≡ false
-      → ((x : Cell) → cell_at r.cells from.0 ≡ Some x → HasKings (moved r.cells from.0 to.0 x)) → BoardAfter rules r sets occupied from.0 to.0 (Go from to Stays None) HasKings
+  -- the piece on a square of the side
+  own_piece : (from : ℕ) (x : Cell) → has sets.own from ≡ true → cell_at r.cells from ≡ Some x → is_own r.side any_kind (Some x) ≡ true
+  own_piece from x own there = ap (is_own r.side any_kind) (sym there) ∙ sym (are.own from) ∙ own
+
+  after_going : (from to : Square) (promo : Promo) (HasKings : List (Option Cell) → Type 0) → from.0 < 120 → to.0 < 120 → has sets.own from.0 ≡ true → has sets.own to.0 ≡ false → passes_by rules r from to.0 ≡ false
+      → ((x : Cell) → cell_at r.cells from.0 ≡ Some x → HasKings (moved r.cells from.0 to.0 (after_promo rules x promo))) → BoardAfter rules r sets occupied from.0 to.0 (Go from to promo None) HasKings
   unfolding is_safe next_repeat
-  after_going from to HasKings l m own target no_passing kings =
+  after_going from to promo HasKings l m own target no_passing kings =
       let piece = some_own r.side (cell_at r.cells from.0) (sym (are.own from.0) ∙ own) in
+      let man = own_promoted rules r.side piece.0 promo (own_piece from.0 piece.0 own piece.1) in
       record {
         men = without sets.enemies to.0;
         now = with_moved occupied from.0 to.0;
-        board = moved r.cells from.0 to.0 piece.0;
+        board = moved r.cells from.0 to.0 (after_promo rules piece.0 promo);
         are_men = without-is sets.enemies to.0 low (omega (arith, m));
         is_now = with_moved-is occupied from.0 to.0 low_occupied (omega (arith, l)) (omega (arith, m));
-        is_board = board_there from.0 to.0 piece.0 l m piece.1 own target;
+        is_board = board_there from.0 to.0 (after_promo rules piece.0 promo) l m man own target;
         has_kings = kings piece.0 piece.1;
-        told = ap (λ cells. not (king_attacked rules cells r.side)) (goes from to piece.0 piece.1 no_passing);
+        told = ap (λ cells. not (king_attacked rules cells r.side)) (goes from to promo piece.0 piece.1 no_passing);
       }
 
   -- ---- the only king goes
@@ -235,28 +263,30 @@ module _ (rules : Rules) (r : Repeat) (sets : BoardSets) (occupied : Set) (are :
 
     king_moves : (x : Cell) → cell_at r.cells from.0 ≡ Some x → HasOnlyKingOn rules r.side (moved r.cells from.0 to.0 x) to.0
     king_moves x there =
-        let apart = differ from.0 to.0 x l m there own_there target in
+        let apart = differ from.0 to.0 own_there target in
         by_place r.cells from.0 to.0 x size l m apart (λ t c. is_own_king rules r.side c ≡ (t == to.0))
         (ap (is_own_king rules r.side) (sym there) ∙ king_there ∙ sym (itself_equal to.0))
         (sym (not_equal from.0 to.0 apart))
         (λ t e f. sym (are.kings t) ∙ only t ∙ e ∙ sym f)
 
     pub king_board : passes_by rules r from to.0 ≡ false → BoardAfter rules r sets occupied from.0 to.0 (Go from to Stays None) (λ board. HasOnlyKingOn rules r.side board to.0)
-    king_board no_passing = after_going from to (λ board. HasOnlyKingOn rules r.side board to.0) l m own_there target no_passing king_moves
+    king_board no_passing = after_going from to Stays (λ board. HasOnlyKingOn rules r.side board to.0) l m own_there target no_passing king_moves
 
   -- ---- a piece other than a king goes
 
-  kings_there : (from to : ℕ) (x : Cell) → from < 120 → to < 120 → cell_at r.cells from ≡ Some x → has sets.own from ≡ true → has sets.kings from ≡ false → has sets.own to ≡ false → KeepsKings rules r sets (moved r.cells from to x)
-  kings_there from to x l m there own king target =
-      by_place r.cells from to x size l m (differ from to x l m there own target) (λ t c. has sets.kings t ≡ is_own_king rules r.side c)
-      (are.kings to ∙ no_king rules r.side (cell_at r.cells to) (sym (are.own to) ∙ target) ∙ sym (ap (is_own_king rules r.side) (sym there) ∙ sym (are.kings from) ∙ king))
+  kings_there : (from to : ℕ) (x : Cell) → from < 120 → to < 120 → is_own_king rules r.side (Some x) ≡ false → has sets.own from ≡ true → has sets.kings from ≡ false → has sets.own to ≡ false → KeepsKings rules r sets (moved r.cells from to x)
+  kings_there from to x l m mere own king target =
+      by_place r.cells from to x size l m (differ from to own target) (λ t c. has sets.kings t ≡ is_own_king rules r.side c)
+      (are.kings to ∙ no_king rules r.side (cell_at r.cells to) (sym (are.own to) ∙ target) ∙ sym mere)
       king
       (λ t e f. are.kings t)
 
-  pub go_board : (from to : Square) → from.0 < 120 → to.0 < 120 → has sets.own from.0 ≡ true → has sets.kings from.0 ≡ false → has sets.own to.0 ≡ false → passes_by rules r from to.0 ≡ false
-      → BoardAfter rules r sets occupied from.0 to.0 (Go from to Stays None) (KeepsKings rules r sets)
-  go_board from to l m own king target no_passing =
-      after_going from to (KeepsKings rules r sets) l m own target no_passing (λ x there. kings_there from.0 to.0 x l m there own king target)
+  pub go_board : (from to : Square) (promo : Promo) → from.0 < 120 → to.0 < 120 → has sets.own from.0 ≡ true → has sets.kings from.0 ≡ false → has sets.own to.0 ≡ false → makes_no_king rules promo ≡ true → passes_by rules r from to.0 ≡ false
+      → BoardAfter rules r sets occupied from.0 to.0 (Go from to promo None) (KeepsKings rules r sets)
+  go_board from to promo l m own king target mere no_passing =
+      after_going from to promo (KeepsKings rules r sets) l m own target no_passing
+      (λ x there. let no = ap (is_own_king rules r.side) (sym there) ∙ sym (are.kings from.0) ∙ king in
+      kings_there from.0 to.0 (after_promo rules x promo) l m (mere_promoted rules r.side x promo mere no) own king target)
 
   -- ---- a piece comes in
 

@@ -41,7 +41,7 @@ module _ (rules : Rules) (r : Repeat) (only : asks_only_safety rules ≡ true) w
     go_at_once leave freely from to l m h target =
         let apart = bars to.0 m target in
         plain_sane rules r (Go from to Stays None) nothing_more
-        ∙ freely from to l m h apart.0 (not_passing rules r from to.0 apart.1)
+        ∙ freely from to Stays l m h apart.0 refl (not_passing rules r from to.0 apart.1)
 
     pub gate_at_once : (kings enter not_barred : Set) → ((s : ℕ) → has not_barred s ≡ (has enter s && not (has barred s)))
         → GateFreely rules r own kings enter → GateAtOnce rules r own kings not_barred

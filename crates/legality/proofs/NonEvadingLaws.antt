@@ -44,12 +44,12 @@ module _ (rules : Rules) (r : Repeat) (sets : BoardSets) (occupied : Set) (are :
 
       -- own pieces other than kings go, whose leaving ends none
       pub go_without_evading : (movers to_leave : Set) → ((s : ℕ) → has movers s ≡ (has sets.own s && not (has sets.kings s))) → ((s : ℕ) → has to_leave s ≡ (has movers s && not (has leave s))) → GoWithoutEvading rules r to_leave to_enter
-      go_without_evading movers to_leave is_mover is_to_leave from to l m h k =
+      go_without_evading movers to_leave is_mover is_to_leave from to promo l m h k mere =
           let a = and_parts (has movers from.0) (not (has leave from.0)) (sym (is_to_leave from.0) ∙ h) in
           let b = and_parts (has sets.own from.0) (not (has sets.kings from.0)) (sym (is_mover from.0) ∙ a.0) in
           let bar = bars to.0 m (not_barred to.0 k) in
-          without_evading from.0 to.0 (Go from to Stays None) m (left_by_none (has leave from.0) (not (from.0 == to.0)) (not-true _ a.1)) (ends_none to.0 k)
-          (go_board rules r sets occupied are are_occupied size from to l m b.0 (not-true _ b.1) bar.0 (not_passing rules r from to.0 bar.1))
+          without_evading from.0 to.0 (Go from to promo None) m (left_by_none (has leave from.0) (not (from.0 == to.0)) (not-true _ a.1)) (ends_none to.0 k)
+          (go_board rules r sets occupied are are_occupied size from to promo l m b.0 (not-true _ b.1) bar.0 mere (not_passing rules r from to.0 bar.1))
 
       -- a piece is dropped
       pub drop_without_evading : DropWithoutEvading rules r to_enter
@@ -65,7 +65,7 @@ module _ (rules : Rules) (r : Repeat) (sets : BoardSets) (occupied : Set) (are :
           (gate_board rules r sets occupied are are_occupied size kind from to l m own king bar.0 mere (not_passing rules r from to.0 bar.1))
 
 pub none_goes_without_evading : (rules : Rules) (r : Repeat) (enter : Set) → GoWithoutEvading rules r (record { 0 = 0 }) enter
-none_goes_without_evading rules r enter from to l m h k = absurd (let f : ⊥ = (let n = has-zero (record { 0 = 0 }) refl from.0 in cc) in f)
+none_goes_without_evading rules r enter from to promo l m h k mere = absurd (let f : ⊥ = (let n = has-zero (record { 0 = 0 }) refl from.0 in cc) in f)
 
 pub none_dropped_without_evading : (rules : Rules) (r : Repeat) → DropWithoutEvading rules r (record { 0 = 0 })
 none_dropped_without_evading rules r kind to m h mere = absurd (let f : ⊥ = (let n = has-zero (record { 0 = 0 }) refl to.0 in cc) in f)

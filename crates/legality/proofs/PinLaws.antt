@@ -30,7 +30,7 @@ use Rattle.next_position.specs.Puts.{left_by, put_on}
 use Rattle.sound_play.proofs.CellLemmas.{cell_at-set_other, cell_at-set_same}
 use Rattle.board_sets.specs.declared.sets.BoardSets.{BoardSets}
 use Rattle.board_sets.specs.Sets.{AreSets}
-use Rattle.legality.specs.Moved.{DropFreely, DropWithoutEvading, GateWithoutEvading, GoFreely, GoWithoutEvading, asks_more, is_free_go, is_free_drop, is_no_evasion, leaves_another}
+use Rattle.legality.specs.Moved.{DropFreely, DropWithoutEvading, GateWithoutEvading, GoFreely, GoWithoutEvading, asks_more, is_free_go, is_free_drop, is_no_evasion, leaves_another, makes_no_king}
 
 -- ---- where the variant asks no more than a safe king
 
@@ -117,14 +117,19 @@ pub not_passing : (rules : Rules) (r : Repeat) (from : Square) (s : ℕ) → is_
 unfolding passes_by
 not_passing rules r from s e = middle_false (is_own_pawn rules r.side (cell_at r.cells from.0)) (is_ep r.ep s) (is_diagonal (board_of rules) r.side from s) e
 
-pub free_is_safe : (rules : Rules) (r : Repeat) (own free : Set) (m : Move) → GoFreely rules r own free → IsFitMove m → is_free_go r own free m ≡ true → is_safe rules r m ≡ true
-free_is_safe rules r own free (Go from to Stays None) freely fit e =
-    let a = and_parts (has free from.0 && not (has own to.0)) (not (is_ep r.ep to.0)) e in
-    let b = and_parts (has free from.0) (not (has own to.0)) a.0 in
-    freely from to fit.0 fit.1 b.0 (not-true (has own to.0) b.1) (not_passing rules r from to.0 (not-true (is_ep r.ep to.0) a.1))
-free_is_safe rules r own free (Go from to Stays (Some kind)) freely fit e = cc
-free_is_safe rules r own free (Go from to (Pawn kind) gate) freely fit e = cc
-free_is_safe rules r own free (Go from to Plus gate) freely fit e = cc
+no_false : (a b c d : Bool) → (a && false && b && c && d) ≡ true → ⊥
+no_false true b c d e = cc
+no_false false b c d e = cc
+
+pub free_is_safe : (rules : Rules) (r : Repeat) (own free : Set) (m : Move) → GoFreely rules r own free → IsFitMove m → is_free_go rules r own free m ≡ true → is_safe rules r m ≡ true
+free_is_safe rules r own free (Go from to promo None) freely fit e =
+    let a = and_parts (makes_no_king rules promo && true && has free from.0 && not (has own to.0)) (not (is_ep r.ep to.0)) e in
+    let b = and_parts (makes_no_king rules promo && true && has free from.0) (not (has own to.0)) a.0 in
+    let c = and_parts (makes_no_king rules promo && true) (has free from.0) b.0 in
+    let d = and_parts (makes_no_king rules promo) true c.0 in
+    freely from to promo fit.0 fit.1 c.1 (not-true (has own to.0) b.1) d.0 (not_passing rules r from to.0 (not-true (is_ep r.ep to.0) a.1))
+free_is_safe rules r own free (Go from to promo (Some kind)) freely fit e =
+    absurd (no_false (makes_no_king rules promo) (has free from.0) (not (has own to.0)) (not (is_ep r.ep to.0)) e)
 free_is_safe rules r own free (Castle from to rook gate) freely fit e = cc
 free_is_safe rules r own free (Drop kind to) freely fit e = cc
 
@@ -145,16 +150,19 @@ missed false b e h = cc
 
 module _ (rules : Rules) (r : Repeat) (own kings leave enter : Set) (goes : GoWithoutEvading rules r leave enter) (drops : DropWithoutEvading rules r enter) (gates : GateWithoutEvading rules r own kings enter) where
   pub no_evasion_is_not_safe : (m : Move) → IsFitMove m → is_no_evasion rules own kings leave enter m ≡ true → is_safe rules r m ≡ false
-  no_evasion_is_not_safe (Go from to Stays None) fit e =
-      let a = and_parts (has enter to.0) (has leave from.0) e in
-      goes from to fit.0 fit.1 a.1 a.0
+  no_evasion_is_not_safe (Go from to promo None) fit e =
+      let a = and_parts (has enter to.0) (makes_no_king rules promo && has leave from.0) e in
+      let b = and_parts (makes_no_king rules promo) (has leave from.0) a.1 in
+      goes from to promo fit.0 fit.1 b.1 a.0 b.0
   no_evasion_is_not_safe (Go from to Stays (Some kind)) fit e =
       let a = and_parts (has enter to.0) (leaves_another rules own kings from kind) e in
       let b = and_parts (has own from.0 && not (has kings from.0)) (not (is_king rules kind)) a.1 in
       let c = and_parts (has own from.0) (not (has kings from.0)) b.0 in
       gates kind from to fit.0 fit.1 c.0 (not-true (has kings from.0) c.1) a.0 (not-true (is_king rules kind) b.1)
-  no_evasion_is_not_safe (Go from to (Pawn kind) gate) fit e = cc
-  no_evasion_is_not_safe (Go from to Plus gate) fit e = cc
+  no_evasion_is_not_safe (Go from to (Pawn kind) (Some left)) fit e =
+      let a = and_parts (has enter to.0) false e in let f : ⊥ = (let n = a.1 in cc) in absurd f
+  no_evasion_is_not_safe (Go from to Plus (Some left)) fit e =
+      let a = and_parts (has enter to.0) false e in let f : ⊥ = (let n = a.1 in cc) in absurd f
   no_evasion_is_not_safe (Castle from to rook gate) fit e = cc
   no_evasion_is_not_safe (Drop kind to) fit e =
       let a = and_parts (has enter to.0) (not (is_king rules kind)) e in

@@ -55,7 +55,7 @@ may_not_go_by rules r shift leave enter targets led those without_evading are st
     let there = and_parts (has targets to.0) (has enter to.0) parts.0 in
     let from : Square = record { 0 = origin shift to.0 } in
     not_safe_not_sane rules r (Go from to Stays None)
-    (without_evading from to (below shift 120 to.0 (starts to.0 there.0)) l (led_from shift leave to.0 (sym (are to.0 (omega (arith, l))) ∙ parts.1)) there.1)
+    (without_evading from to Stays (below shift 120 to.0 (starts to.0 there.0)) l (led_from shift leave to.0 (sym (are to.0 (omega (arith, l))) ∙ parts.1)) there.1 refl)
 
 -- those that are chosen, of those that are told
 pub either_way : (a b u t : Bool) → (a ≡ true → t ≡ true) → (b ≡ true → t ≡ false) → (u ≡ true → t ≡ false) → a ≡ (((a || b) || u) && t)

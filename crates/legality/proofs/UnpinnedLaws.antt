@@ -38,10 +38,10 @@ module _ (rules : Rules) (r : Repeat) (sets : BoardSets) (occupied : Set) (are :
 
     -- those of the free squares with own pieces that are no kings
     pub go_freely : (some few : Set) → ((s : ℕ) → has some s ≡ (has free s && has sets.own s)) → ((s : ℕ) → has few s ≡ (has some s && not (has sets.kings s))) → GoFreely rules r sets.own few
-    go_freely some few is_some_free is_few from to l m h target no_passing =
+    go_freely some few is_some_free is_few from to promo l m h target mere no_passing =
         let a = and_parts (has some from.0) (not (has sets.kings from.0)) (sym (is_few from.0) ∙ h) in
         let b = and_parts (has free from.0) (has sets.own from.0) (sym (is_some_free from.0) ∙ a.0) in
-        spared from.0 to.0 (Go from to Stays None) b.0 (go_board rules r sets occupied are are_occupied size from to l m b.1 (not-true _ a.1) target no_passing)
+        spared from.0 to.0 (Go from to promo None) b.0 (go_board rules r sets occupied are are_occupied size from to promo l m b.1 (not-true _ a.1) target mere no_passing)
 
     -- to the free squares without own pieces it is dropped
     pub drop_freely : (enter : Set) → ((s : ℕ) → has enter s ≡ (has free s && not (has sets.own s))) → DropFreely rules r enter
@@ -56,7 +56,7 @@ module _ (rules : Rules) (r : Repeat) (sets : BoardSets) (occupied : Set) (are :
         spared to.0 to.0 (Go from to Stays (Some kind)) a.0 (gate_board rules r sets occupied are are_occupied size kind from to l m own king (not-true _ a.1) mere no_passing)
 
 pub none_freely : (rules : Rules) (r : Repeat) (own : Set) → GoFreely rules r own (record { 0 = 0 })
-none_freely rules r own from to l m h target no_passing = absurd (let f : ⊥ = (let n = has-zero (record { 0 = 0 }) refl from.0 in cc) in f)
+none_freely rules r own from to promo l m h target mere no_passing = absurd (let f : ⊥ = (let n = has-zero (record { 0 = 0 }) refl from.0 in cc) in f)
 
 pub none_dropped : (rules : Rules) (r : Repeat) → DropFreely rules r (record { 0 = 0 })
 none_dropped rules r kind to m h mere = absurd (let f : ⊥ = (let n = has-zero (record { 0 = 0 }) refl to.0 in cc) in f)

@@ -6,7 +6,8 @@ use Rattle.rules_model.specs.declared.board.Repeat.{Repeat}
 use Rattle.rules_model.specs.declared.board.Square.{Square}
 use Rattle.rules_model.specs.declared.moves.Move.{Move}
 use Rattle.rules_model.specs.declared.moves.Move.TheVariants.{Go, Castle, Drop}
-use Rattle.rules_model.specs.declared.moves.Promo.TheVariants.{Stays}
+use Rattle.rules_model.specs.declared.moves.Promo.{Promo}
+use Rattle.rules_model.specs.declared.moves.Promo.TheVariants.{Stays, Pawn, Plus}
 use Rattle.rules_model.specs.declared.rules.Rules.{Rules}
 use Rattle.rules_model.specs.Attacks.{is_own, is_own_king}
 use Rattle.rules_model.specs.Kinds.{is_king}
@@ -29,13 +30,19 @@ asks_more rules m = rules.immobile_bad || not (rules.checking && (rules.drop_che
 abbrev pub IsPutBy : Rules → Position → Move → OnePut → Type 0
 IsPutBy rules p m put = cells_after rules (repeat_of p) m ≡ put_on put p.cells
 
--- a piece of the free squares goes without a gate and stays what it is, to a square without an own piece and not to
--- that of en passant
-abbrev pub is_free_go : Repeat → Set → Set → Move → Bool
-is_free_go r own free (Go from to promo gate) =
-    is_stays promo && is_none gate && has free from.0 && not (has own to.0) && not (is_ep r.ep to.0)
-is_free_go r own free (Castle from to rook gate) = false
-is_free_go r own free (Drop kind to) = false
+-- the piece stays what it is, or is a pawn that becomes a piece other than a king
+abbrev pub makes_no_king : Rules → Promo → Bool
+makes_no_king rules Stays = true
+makes_no_king rules (Pawn kind) = not (is_king rules kind)
+makes_no_king rules Plus = false
+
+-- a piece of the free squares goes without a gate and makes no king, to a square without an own piece and not to that
+-- of en passant
+abbrev pub is_free_go : Rules → Repeat → Set → Set → Move → Bool
+is_free_go rules r own free (Go from to promo gate) =
+    makes_no_king rules promo && is_none gate && has free from.0 && not (has own to.0) && not (is_ep r.ep to.0)
+is_free_go rules r own free (Castle from to rook gate) = false
+is_free_go rules r own free (Drop kind to) = false
 
 -- a piece other than a king is dropped on one of the squares that are free to enter
 abbrev pub is_free_drop : Rules → Set → Move → Bool
@@ -43,14 +50,15 @@ is_free_drop rules enter (Go from to promo gate) = false
 is_free_drop rules enter (Castle from to rook gate) = false
 is_free_drop rules enter (Drop kind to) = has enter to.0 && not (is_king rules kind)
 
--- a piece that goes from a square of the set without a gate and stays what it is leaves its king safe, unless it
--- takes in passing or takes its own
+-- a piece that goes from a square of the set without a gate and makes no king leaves its king safe, unless it takes
+-- in passing or takes its own
 abbrev pub GoFreely : Rules → Repeat → Set → Set → Type 0
 GoFreely rules r own free =
-    (from to : Square) → from.0 < 120 → to.0 < 120 → has free from.0 ≡ true → has own to.0 ≡ false
-    → passes_by rules r from to.0 ≡ false → is_safe rules r (Go from to Stays None) ≡ true
+    (from to : Square) (promo : Promo) → from.0 < 120 → to.0 < 120 → has free from.0 ≡ true → has own to.0 ≡ false
+    → makes_no_king rules promo ≡ true → passes_by rules r from to.0 ≡ false
+    → is_safe rules r (Go from to promo None) ≡ true
 
--- the same, by the board alone
+-- the same of one that stays what it is, by the board alone
 abbrev pub LeaveSafely : Rules → Repeat → Set → Type 0
 LeaveSafely rules r free =
     (from to : Square) → from.0 < 120 → to.0 < 120 → has free from.0 ≡ true
@@ -81,12 +89,12 @@ HoldNoKing rules r set = (s : ℕ) → has set s ≡ true → is_own_king rules 
 
 -- ---- no evasion
 
--- a piece that goes from a square of the first set to one of the second without a gate, and stays what it is, leaves
--- its king attacked
+-- a piece that goes from a square of the first set to one of the second without a gate, and makes no king, leaves its
+-- king attacked
 abbrev pub GoWithoutEvading : Rules → Repeat → Set → Set → Type 0
 GoWithoutEvading rules r leave enter =
-    (from to : Square) → from.0 < 120 → to.0 < 120 → has leave from.0 ≡ true → has enter to.0 ≡ true
-    → is_safe rules r (Go from to Stays None) ≡ false
+    (from to : Square) (promo : Promo) → from.0 < 120 → to.0 < 120 → has leave from.0 ≡ true → has enter to.0 ≡ true
+    → makes_no_king rules promo ≡ true → is_safe rules r (Go from to promo None) ≡ false
 
 -- so does a piece other than a king that is dropped on a square of the set
 abbrev pub DropWithoutEvading : Rules → Repeat → Set → Type 0
@@ -104,16 +112,17 @@ GateWithoutEvading rules r own kings enter =
 abbrev pub leaves_another : Rules → Set → Set → Square → Kind → Bool
 leaves_another rules own kings from kind = has own from.0 && not (has kings from.0) && not (is_king rules kind)
 
--- without a gate a piece goes from a square of 'leave'; with one, an own piece other than a king leaves one other than
--- a king behind
-abbrev pub leaves_without_evading : Rules → Set → Set → Set → Square → Option Kind → Bool
-leaves_without_evading rules own kings leave from None = has leave from.0
-leaves_without_evading rules own kings leave from (Some kind) = leaves_another rules own kings from kind
+-- without a gate a piece goes from a square of 'leave' and makes no king; with one, an own piece other than a king stays
+-- what it is and leaves one other than a king behind
+abbrev pub leaves_without_evading : Rules → Set → Set → Set → Square → Promo → Option Kind → Bool
+leaves_without_evading rules own kings leave from promo None = makes_no_king rules promo && has leave from.0
+leaves_without_evading rules own kings leave from promo (Some kind) =
+    is_stays promo && leaves_another rules own kings from kind
 
--- one that does so goes to a square of `enter` and stays what it is, or a piece other than a king is dropped on one
+-- one that does so goes to a square of `enter`, or a piece other than a king is dropped on one
 abbrev pub is_no_evasion : Rules → Set → Set → Set → Set → Move → Bool
 is_no_evasion rules own kings leave enter (Go from to promo gate) =
-    is_stays promo && has enter to.0 && leaves_without_evading rules own kings leave from gate
+    has enter to.0 && leaves_without_evading rules own kings leave from promo gate
 is_no_evasion rules own kings leave enter (Castle from to rook gate) = false
 is_no_evasion rules own kings leave enter (Drop kind to) = has enter to.0 && not (is_king rules kind)
 

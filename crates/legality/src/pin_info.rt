@@ -26,7 +26,7 @@ use next_position::{OnePut, move_pieces, one_put, touched};
 use rules_model::kinds::names;
 use rules_model::passing::{is_ep, is_stays};
 use rules_model::sizes::prove_position_sizes;
-use rules_model::{Cell, Cells, Kind, Move, Position, Side, Square};
+use rules_model::{Cell, Cells, Kind, Move, Position, Promo, Rules, Side, Square};
 use square_set::{EMPTY, Set, Shift};
 
 /// A position, with what tells of its candidates whether they are sane.
@@ -72,6 +72,17 @@ fn is_man(side: Side, cell: Option<Cell>) -> bool
     match cell {
         None => false,
         Some(cell) => cell.side.is(side),
+    }
+}
+
+/// Whether the piece stays what it is, or is a pawn that becomes a piece other than a king.
+fn makes_no_king(rules: &Rules, promo: Promo) -> bool
+    ensures { result ≡ Moved.makes_no_king rules.now promo }
+{
+    match promo {
+        Promo::Stays => true,
+        Promo::Pawn(kind) => !names(rules.king, kind),
+        Promo::Plus => false,
     }
 }
 
@@ -122,11 +133,12 @@ impl<'a> PinInfo<'a> {
         rules.immobile_bad || !(rules.checking && (rules.drop_checks || !is_drop(m)))
     }
 
-    /// Whether a free piece goes without a gate and stays what it is, to a square without an own piece, and not to
-    /// that of en passant.
+    /// Whether a free piece goes without a gate and makes no king, to a square without an own piece, and not to that
+    /// of en passant.
     fn is_free_go(&self, m: &Move) -> bool
         requires { IsFitMove m.now }
-        ensures { result ≡ Moved.is_free_go (repeat_of self.now.p.now) self.now.sets.own self.now.free.to_leave m.now }
+        ensures { result ≡ Moved.is_free_go self.now.tables.now (repeat_of self.now.p.now) self.now.sets.own
+            self.now.free.to_leave m.now }
     {
         match *m {
             Move::Go {
@@ -135,7 +147,7 @@ impl<'a> PinInfo<'a> {
                 promo,
                 gate,
             } => {
-                is_stays(promo)
+                makes_no_king(self.tables.rules(), promo)
                     && gate.is_none()
                     && self.free.to_leave.has(from.0)
                     && !self.sets.own.has(to.0)
@@ -172,20 +184,21 @@ impl<'a> PinInfo<'a> {
     }
 
     /// Whether what goes from the square to any square of `non_evading.to_enter` evades no check: from one of
-    /// `non_evading.to_leave`, or where it leaves another piece behind.
-    fn leaves_without_evading(&self, from: Square, gate: Option<Kind>) -> bool
+    /// `non_evading.to_leave`, where it makes no king, or where it stays what it is and leaves another piece behind.
+    fn leaves_without_evading(&self, from: Square, promo: Promo, gate: Option<Kind>) -> bool
         requires { from.0 < 120 }
         ensures { result ≡ Moved.leaves_without_evading self.now.tables.now self.now.sets.own self.now.sets.kings
-            self.now.non_evading.to_leave from gate }
+            self.now.non_evading.to_leave from promo gate }
     {
         match gate {
-            None => self.non_evading.to_leave.has(from.0),
-            Some(kind) => self.leaves_another(from, kind),
+            None => {
+                makes_no_king(self.tables.rules(), promo) && self.non_evading.to_leave.has(from.0)
+            }
+            Some(kind) => is_stays(promo) && self.leaves_another(from, kind),
         }
     }
 
-    /// Whether the sets say that the move leaves a king attacked: a piece goes so and stays what it is, or one
-    /// other than a king is dropped.
+    /// Whether the sets say that the move leaves a king attacked: a piece goes so, or one other than a king is dropped.
     fn is_no_evasion(&self, m: &Move) -> bool
         requires { IsFitMove m.now }
         ensures { result ≡ Moved.is_no_evasion self.now.tables.now self.now.sets.own self.now.sets.kings
@@ -198,9 +211,8 @@ impl<'a> PinInfo<'a> {
                 promo,
                 gate,
             } => {
-                is_stays(promo)
-                    && self.non_evading.to_enter.has(to.0)
-                    && self.leaves_without_evading(from, gate)
+                self.non_evading.to_enter.has(to.0)
+                    && self.leaves_without_evading(from, promo, gate)
             }
             Move::Castle { .. } => false,
             Move::Drop { kind, to } => {
