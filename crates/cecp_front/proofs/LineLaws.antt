@@ -8,7 +8,7 @@ use Rattle.std.specs.List.{count_by, slice_split}
 use Rattle.std.proofs.lemmas.List.Splits.{length-slice_split}
 use Rattle.io_ports.specs.Lines.{Text}
 use Rattle.game_text.specs.Playing.{words_of}
-use Rattle.session_model.specs.CecpLines.{Command, are_numbers, by_number, command_in, command_named, command_of, gives_up, level_by, level_of, ping_of}
+use Rattle.session_model.specs.CecpLines.{Command, are_numbers, by_number, command_in, command_named, command_of, gives_up, level_by, level_of}
 use Rattle.session_model.specs.CecpLines as CecpLines
 use Rattle.session_model.specs.CecpSession.{is_quit}
 use Rattle.session_model.specs.Numbers.{number_read}

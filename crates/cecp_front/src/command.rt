@@ -4,7 +4,7 @@ ghost use Rattle.io_ports.specs.Lines.{Text as TextLine};
 ghost use Rattle.game_text.specs.Playing.{words_of};
 ghost use Rattle.session_model.specs.CecpLines as CecpLines;
 ghost use Rattle.session_model.specs.CecpSession.{is_quit};
-ghost use Rattle.cecp_front.specs.View.{command_by, command_seen, verb_gives_up};
+ghost use Rattle.cecp_front.specs.View.{command_by, command_seen};
 ghost use Rattle.uci_lines.specs.View.{line_got, texts};
 
 use crate::verb::{Verb, read_verb};

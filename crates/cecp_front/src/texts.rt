@@ -2,7 +2,6 @@
 ghost use Rattle.std.specs.Prelude.{◌≡◌, ◌++◌, IfOk, bytes_eq, codes, if◌then◌else◌, map};
 ghost use Rattle.std.specs.List.{filter, flat_map};
 ghost use Rattle.io_ports.specs.Heard.{too_long};
-ghost use Rattle.rules_model.specs.MoveText.{text_of};
 ghost use Rattle.session_model.specs.CecpSession as CecpSession;
 ghost use Rattle.session_model.specs.CecpState as CecpState;
 ghost use Rattle.uci_lines.specs.View.{texts};

@@ -1,15 +1,13 @@
 -- Reading what was written gives the certificate back.
-use Rattle.std.proofs.Common.{◌≡◌, ◌⊎◌, inl, inr, ℕ, suc, ◌+◌, ◌-◌, ◌*◌, ◌/◌, ◌^◌, ◌<◌, ◌≤◌, ◌==◌, nat_le, ◌&&◌, Bool, true, false, is_some, List, [], ◌∷◌, ◌++◌, length, map, reverse, Some, None, Ok, Err, if◌then◌else◌, refl, sym, ap, subst, ◌∙◌, arith, append_assoc, append-nil, length-append}
-use Rattle.std.specs.Prelude.{Result, codes, max, option_and_then}
+use Rattle.std.proofs.Common.{◌≡◌, inl, inr, ℕ, ◌+◌, ◌-◌, ◌*◌, ◌^◌, ◌<◌, ◌≤◌, ◌==◌, nat_le, ◌&&◌, Bool, true, false, is_some, List, [], ◌∷◌, ◌++◌, length, map, reverse, Some, None, Ok, Err, if◌then◌else◌, refl, sym, ap, subst, ◌∙◌, arith, append_assoc, append-nil, length-append}
+use Rattle.std.specs.Prelude.{codes, option_and_then}
 use Rattle.std.specs.Fmt.{decimal}
-use Rattle.std.proofs.lemmas.Bool.{and_from, eq-eqb, le-leb, ne_eqb}
-use Rattle.std.proofs.lemmas.Bool.Decides.{nat_tests}
+use Rattle.std.proofs.lemmas.Bool.{and_from, le-leb, ne_eqb}
 use Rattle.std.proofs.lemmas.List.{map-append, reverse-append, reverse-reverse}
 use Rattle.foundation.specs.Cuts.{cut}
 use Rattle.foundation.specs.Member.{Member}
-use Rattle.foundation.specs.Numbers.{number_of, number_within, within}
+use Rattle.foundation.specs.Numbers.{number_within, within}
 use Rattle.io_ports.specs.Lines.{Line, Text, lines_of}
-use Rattle.rules_model.specs.declared.board.Position.{Position}
 use Rattle.rules_model.specs.declared.board.Side.{Side}
 use Rattle.rules_model.specs.declared.moves.Move.{Move}
 use Rattle.rules_model.specs.declared.rules.Rules.{Rules}
@@ -28,22 +26,20 @@ use Rattle.game_play.specs.Played.{Played, story}
 use Rattle.game_play.proofs.KeptLemmas.{played-last-sound}
 use Rattle.game_text.specs.Playing.{move_in}
 use Rattle.game_text.proofs.PlayLemmas.{plays-named}
-use Rattle.strategy.specs.Writing.{ended_lines}
-use Rattle.strategy.proofs.BackLemmas.{Above, above-append, above-lacks, cut-word, decimal-above, decimal-short, lower-above, move-above, move-short}
+use Rattle.strategy.proofs.BackLemmas.{above-append, above-lacks, cut-word, decimal-above, decimal-short, lower-above, move-above, move-short}
 use Rattle.strategy.proofs.LineLaws.{IsLine, each-append, high-line, lines-back}
 use Rattle.stipulation.specs.declared.cert.Step.{Step}
 use Rattle.stipulation.specs.declared.verdict.CertVerdict.TheVariants.{Holds}
 use Rattle.stipulation.specs.Stipulations.{aims, help_games}
 use Rattle.stipulation.specs.Trees.{game_at, parent_game}
-use Rattle.stipulation.specs.Verdicts.{fault_if, is_bad_ply, or_verdict, plies_verdict, steps_verdict, tree_verdict}
+use Rattle.stipulation.specs.Verdicts.{is_bad_ply, plies_verdict, steps_verdict, tree_verdict}
 use Rattle.stipulation.proofs.CheckLemmas.{plies-first}
 use Rattle.stipulation.proofs.HoldLaws.{Shallow, tree-shallow}
 use Rattle.stipulation.proofs.RuleLaws.{help-tree}
-use Rattle.stipulation.proofs.TreeLemmas.{or-holds, steps-holds, tree-parts}
-use Rattle.cert_text.specs.declared.fault.CertFault.{CertFault}
+use Rattle.stipulation.proofs.TreeLemmas.{steps-holds, tree-parts}
 use Rattle.cert_text.specs.declared.fault.CertFault.TheVariants.{BadLine}
 use Rattle.cert_text.specs.Reading.{◌>>=◌, SoFar, begun, cert_of, counted, finished, last_ply, parent_position, step, taken, with_move, with_said, with_step, with_text}
-use Rattle.cert_text.specs.Said.{Said, end_line, is_title, said, said_after, step_line, step_of, title_after}
+use Rattle.cert_text.specs.Said.{end_line, is_title, said, said_after, step_line, step_of, title_after}
 use Rattle.cert_text.specs.Writing.{HoldsIn, cert_text, cert_texts, greatest_ply, moves_of, step_text, title_text}
 
 -- ---- lines

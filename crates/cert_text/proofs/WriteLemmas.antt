@@ -1,13 +1,10 @@
 -- Texts piece by piece.
-use Rattle.std.proofs.Common.{◌≡◌, ℕ, ◌+◌, ◌/◌, ◌<◌, ◌≤◌, Bool, List, [], ◌∷◌, ◌++◌, length, get_or, drop, map, refl, sym, ap, ◌∙◌, arith, append_assoc, append-nil, add-one}
-use Rattle.std.specs.Prelude.{codes, max}
-use Rattle.std.specs.Fmt.{decimal}
-use Rattle.std.proofs.Math.Seq.{drop-cons}
-use Rattle.std.proofs.lemmas.List.{drop_all}
+use Rattle.std.proofs.Common.{◌≡◌, ℕ, ◌+◌, Bool, List, [], ◌∷◌, ◌++◌, map, sym, ap, ◌∙◌, append_assoc}
+use Rattle.std.specs.Prelude.{codes}
 use Rattle.strategy.specs.Writing.{ended_line, ended_lines}
 use Rattle.strategy.proofs.WriteLemmas.{ended_lines-append}
 use Rattle.stipulation.specs.declared.cert.Step.{Step}
-use Rattle.cert_text.specs.Writing.{cert_text, cert_texts, greatest_ply, step_text, title_text}
+use Rattle.cert_text.specs.Writing.{cert_text, step_text, title_text}
 
 -- the whole of its parts
 pub cert-pushed : (help : Bool) (steps : List Step) (empty title lines whole : List ℕ) → empty ≡ [] → title ≡ empty ++ ended_line (title_text help steps) → lines ≡ title ++ ended_lines (map step_text steps)

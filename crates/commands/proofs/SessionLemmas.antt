@@ -52,7 +52,8 @@ use Rattle.commands.specs.Run.{Completes, Did, DidPart, May, MaySpeak}
 use Rattle.one_shots.specs.Statuses.{IsCut, IsDone}
 use Rattle.one_shots.specs.Sessions.{dialect_of, is_session, lines_wanted, to_do}
 use Rattle.one_shots.specs.Shot.{Says}
-use Rattle.commands.specs.Speaking.{BeginsBuiltIn, BrokeFrom, BrokeIn, SpokeFrom, SpokeIn, Talks, ended_status}
+use Rattle.uci_front.specs.SessionView.{BeginsBuiltIn}
+use Rattle.commands.specs.Speaking.{BrokeFrom, BrokeIn, SpokeFrom, SpokeIn, Talks, ended_status}
 use Rattle.one_shots.specs.Variants.{Accepts, AreFirstReads, AreReadsOf, fault_found, fault_in, sections_in}
 use Rattle.one_shots.proofs.FileLemmas.{no_further, reads_on, same_reads}
 use Rattle.one_shots.proofs.OpeningLemmas.{refused_first, refused_says}

@@ -1,5 +1,5 @@
 -- What a session leaves that is held from the start of its protocol, and the status that it gives its run.
-use Rattle.std.specs.Prelude.{◌≡◌, ℕ, List, Option, Some, Result, Ok, Err, ◌++◌}
+use Rattle.std.specs.Prelude.{◌≡◌, ℕ, List, Option, Some, Result, Ok, Err}
 use Rattle.io_ports.specs.declared.dialect.Dialect.{Dialect}
 use Rattle.io_ports.specs.declared.dialect.Dialect.TheVariants.{Uci, Cecp}
 use Rattle.io_ports.specs.declared.limits.SearchFault.{SearchFault}
@@ -15,7 +15,6 @@ use Rattle.session_model.specs.UciSession.{uci}
 use Rattle.session_model.specs.UciState as UciState
 use Rattle.session_model.specs.Spoken.{Spoke, SpokePart}
 use Rattle.variant_ini.specs.Section.{Section}
-use Rattle.variant_model.specs.Builtin.{builtin_sections}
 use Rattle.watching.specs.Looks.{Moved}
 
 -- a session spoke from its start to its end
@@ -60,10 +59,6 @@ abbrev pub moved_between : {S K C G : Type 0} → (S → Option (List ℕ)) → 
 moved_between left taken given count last ports ports' =
     Moves left taken given count last ports.source.now ports'.source.now ports.sink.now ports'.sink.now
     ports.clock.now ports'.clock.now
-
--- the first sections are those that are built in
-abbrev pub BeginsBuiltIn : List Section → Type 0
-BeginsBuiltIn sections = (more : List Section) × (sections ≡ builtin_sections ++ more)
 
 -- the status of a run whose session ended so
 abbrev pub ended_status : {A : Type 0} → Result A SearchFault → ℕ

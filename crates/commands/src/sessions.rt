@@ -3,7 +3,8 @@ ghost use Rattle.std.specs.Prelude.{◌≡◌, ◌≤◌, IsErrOf};
 ghost use Rattle.io_ports.specs.Trace.{Moves, Reads};
 ghost use Rattle.session_model.specs.Lines.{Causes};
 ghost use Rattle.one_shots.specs.Sessions as sessions;
-ghost use Rattle.commands.specs.Speaking.{BeginsBuiltIn, Talks, ended_status, moved_between};
+ghost use Rattle.commands.specs.Speaking.{Talks, ended_status, moved_between};
+ghost use Rattle.uci_front.specs.SessionView.{BeginsBuiltIn};
 ghost use Rattle.watching.specs.Stopping.{AreSamePorts};
 ghost use Rattle.words.specs.View.{command_seen};
 

@@ -1,6 +1,6 @@
 -- What is said of a position in a frame: the rules, the repeats that may not be entered again, and the side that
 -- attacks.
-use Rattle.std.specs.Prelude.{ℕ, Bool, List, Option}
+use Rattle.std.specs.Prelude.{ℕ, ◌-◌, Bool, true, false, List, Option}
 use Rattle.foundation.specs.Member.{Member}
 use Rattle.rules_model.specs.declared.board.Position.{Position}
 use Rattle.rules_model.specs.declared.moves.Move.{Move}
@@ -23,6 +23,11 @@ near_in f n p = near f.rules n p f.blocked f.attacker
 
 abbrev pub legal_in : Frame → Position → List Move
 legal_in f p = legal f.rules (repeat_of p)
+
+-- how many moves the attacker has left after a move, his own or the other side's
+abbrev pub left_after : Bool → ℕ → ℕ
+left_after true n = n - 1
+left_after false n = n
 
 -- it is ongoing, and the attacker is to move
 abbrev pub IsAttackIn : Frame → Position → Type 0

@@ -1,5 +1,5 @@
 //! Facts that the attacker does not win.
-ghost use Rattle.std.specs.Prelude.{◌≡◌, ◌+◌, ◌<◌, ◌∷◌, [], true, false, Some, None, IfSome};
+ghost use Rattle.std.specs.Prelude.{◌≡◌, ◌+◌, ◌<◌, ◌∷◌, [], false, Some, None, IfSome};
 ghost use Rattle.foundation.specs.Member.{Member};
 ghost use Rattle.forced_wins.specs.declared.fact.Fact.{Fact};
 ghost use Rattle.forced_wins.specs.Facts as Facts;

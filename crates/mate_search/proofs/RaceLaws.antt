@@ -10,7 +10,7 @@ use Rattle.mate_core.specs.declared.frame.Frame.{Frame}
 use Rattle.mate_settle.proofs.Lines.{lines-after, sum-more}
 use Rattle.mate_settle.specs.Choices.{lines_of_moves}
 use Rattle.mate_settle.specs.Lines.{lines_within, seen_in}
-use Rattle.mate_settle.specs.Steps.{left_after}
+use Rattle.mate_fact.specs.InFrame.{left_after}
 use Rattle.mate_shards.proofs.GrownLaws.{grown-onward}
 use Rattle.mate_shards.proofs.PassLemmas.{all-from, some-at}
 use Rattle.mate_shards.proofs.TurnLemmas.{all-at}

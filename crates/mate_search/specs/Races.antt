@@ -7,7 +7,7 @@ use Rattle.rules_model.specs.declared.board.Position.{Position}
 use Rattle.rules_model.specs.Sides.{same_side}
 use Rattle.mate_core.specs.declared.frame.Frame.{Frame}
 use Rattle.mate_settle.specs.Lines.{lines_within, seen_in}
-use Rattle.mate_settle.specs.Steps.{left_after}
+use Rattle.mate_fact.specs.InFrame.{left_after}
 use Rattle.mate_shards.specs.Grown.{HaveParts}
 use Rattle.mate_shards.specs.Views.{ArePassesOf, ShardsView}
 use Rattle.mate_showing.specs.Answers.{IsFrameOf}

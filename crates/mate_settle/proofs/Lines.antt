@@ -15,7 +15,7 @@ use Rattle.mate_core.specs.declared.frame.Frame.{Frame}
 use Rattle.mate_settle.proofs.OrderLaws.{read-at}
 use Rattle.mate_settle.specs.Choices.{lines_of_moves, lines_of_turn}
 use Rattle.mate_settle.specs.Lines.{plies, lines, lines_within, lines_after, seen_in}
-use Rattle.mate_settle.specs.Steps.{left_after}
+use Rattle.mate_fact.specs.InFrame.{left_after}
 
 module _ {P R M : Type 0} (r : Game P R M) where
   pub lines-some : (t : ℕ) (p : P) → 1 ≤ lines r t p

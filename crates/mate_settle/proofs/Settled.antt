@@ -36,7 +36,8 @@ use Rattle.mate_settle.specs.Choices.{some_wins, all_win, move_of, lines_of_turn
 use Rattle.mate_settle.specs.Lines.{plies, lines_within, lines_after, seen_in}
 use Rattle.mate_settle.proofs.Lines.{part-more, turn-whole, plies-fall, left-small, same-lines}
 use Rattle.mate_settle.specs.declared.told.Told.{Told}
-use Rattle.mate_settle.specs.Steps.{left_after, farther_of, after_one, after_all, IsFar, Decides, NoneDecides}
+use Rattle.mate_fact.specs.InFrame.{left_after}
+use Rattle.mate_settle.specs.Steps.{farther_of, after_one, after_all, IsFar, Decides, NoneDecides}
 use Rattle.mate_settle.specs.Tellings.{IsTold, told_of, told_of_end}
 
 -- ---- what a fact that serves covers

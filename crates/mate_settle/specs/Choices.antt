@@ -7,10 +7,9 @@ use Rattle.rules_model.specs.declared.moves.Move.{Move}
 use Rattle.rules_model.specs.Next.{next}
 use Rattle.rules_model.specs.Sides.{same_side}
 use Rattle.mate_core.specs.declared.frame.Frame.{Frame}
-use Rattle.mate_fact.specs.InFrame.{near_in, legal_in}
+use Rattle.mate_fact.specs.InFrame.{near_in, legal_in, left_after}
 use Rattle.mate_settle.specs.declared.choosing.WinningMove.{WinningMove}
 use Rattle.mate_settle.specs.Lines.{lines_after, seen_in}
-use Rattle.mate_settle.specs.Steps.{left_after}
 
 -- after the move the position is won within n moves
 abbrev pub wins_after : Frame → ℕ → Position → Move → Bool

@@ -1,5 +1,5 @@
 -- How a position is settled from those that its moves lead to.
-use Rattle.std.specs.Prelude.{◌≡◌, ℕ, ◌+◌, ◌-◌, ◌≤◌, List, Bool, true, false, not, min, max, None}
+use Rattle.std.specs.Prelude.{◌≡◌, ℕ, ◌+◌, ◌≤◌, List, Bool, true, false, not, min, max, None}
 use Rattle.foundation.specs.Member.{Member}
 use Rattle.rules_model.specs.declared.board.Position.{Position}
 use Rattle.rules_model.specs.declared.moves.Move.{Move}
@@ -8,11 +8,6 @@ use Rattle.rules_model.specs.Sides.{same_side}
 use Rattle.forced_wins.specs.Facts.{smaller}
 use Rattle.mate_core.specs.declared.frame.Frame.{Frame}
 use Rattle.mate_fact.specs.InFrame.{end_in, legal_in, near_in}
-
--- how many moves the attacker has after a move, his own or the other side's
-abbrev pub left_after : Bool → ℕ → ℕ
-left_after true n = n - 1
-left_after false n = n
 
 -- of refutations the fewest moves count, of wins the most
 abbrev pub far_at_first : Bool → ℕ

@@ -93,7 +93,7 @@ fn known_now(frame: &Frame, board: &Board, n: u16, any: bool) -> Option<Fact>
 
 fn moves_left(attacking: bool, n: u16) -> u16
     requires { attacking ≡ true → 0 < n }
-    ensures is { result ≡ Steps.left_after attacking n }
+    ensures is { result ≡ In.left_after attacking n }
     ensures some { attacking ≡ true → 0 < n }
 {
     if attacking { n - 1 } else { n }
@@ -191,7 +191,7 @@ pub fn decide(
     requires legal { Member chosen (legal_in board.now) }
     requires some { attacking ≡ true → 0 < n }
     requires small { n ≤ 1000 }
-    requires told { IsTold facts.old (after board.now chosen).position (Steps.left_after attacking n) known }
+    requires told { IsTold facts.old (after board.now chosen).position (In.left_after attacking n) known }
     requires wins { known.wins ≡ attacking }
     ensures frame { facts.new ≡ facts.old }
     ensures told { IsTold facts.old board.now.position n result }
@@ -226,7 +226,7 @@ fn keep_each(facts: &mut FactTable, board: &Board, attacking: bool, n: u16, far:
     requires turn { same_side board.now.position.side facts.old.attacker ≡ attacking }
     requires none { Steps.NoneDecides facts.old board.now.position attacking far
         (In.legal_in facts.old board.now.position) }
-    requires far { Steps.IsFar attacking (Steps.left_after attacking n) far }
+    requires far { Steps.IsFar attacking (In.left_after attacking n) far }
     requires small { n ≤ 1000 }
     ensures frame { facts.new ≡ facts.old }
     ensures told { IsTold facts.old board.now.position n result }

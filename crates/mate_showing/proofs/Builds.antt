@@ -16,7 +16,7 @@ use Rattle.strategy.specs.declared.nodes.Edge.{Edge}
 use Rattle.mate_showing.specs.declared.plan.StrategyPlan.{StrategyPlan}
 use Rattle.mate_settle.specs.Lines.{plies, lines_within, lines_after}
 use Rattle.mate_showing.specs.Reached.{left_along, IsReached}
-use Rattle.mate_settle.specs.Steps.{left_after}
+use Rattle.mate_fact.specs.InFrame.{left_after}
 use Rattle.mate_showing.specs.Tables.{most, GoesOnAt, GoesOn, IsNext, Stands, IsLedTo, AreEdges, Grows}
 use Rattle.mate_settle.proofs.Lines.{lines-some, lines-after, plies-up, plies-fall, plies-after, within-mono, member-sum, sum-more}
 use Rattle.mate_showing.proofs.Growth.{stands-grows}

@@ -14,7 +14,7 @@ use Rattle.strategy.specs.declared.nodes.Edge.{Edge}
 use Rattle.mate_showing.specs.declared.plan.StrategyPlan.{StrategyPlan}
 use Rattle.mate_settle.specs.Lines.{plies}
 use Rattle.mate_showing.specs.Reached.{OnLine}
-use Rattle.mate_settle.specs.Steps.{left_after}
+use Rattle.mate_fact.specs.InFrame.{left_after}
 use Rattle.mate_showing.specs.Tables.{has_key, highest, most, IsNext, Stands, IsLed, AreEdges, IsRow, IsSound, Grows}
 
 eq_to : (m n : ℕ) → m ≡ n → (m == n) ≡ true

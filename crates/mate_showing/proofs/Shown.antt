@@ -19,7 +19,7 @@ use Rattle.strategy.specs.declared.nodes.Node.{Node}
 use Rattle.strategy.specs.declared.nodes.Edge.{Edge}
 use Rattle.mate_showing.specs.declared.plan.StrategyPlan.{StrategyPlan}
 use Rattle.mate_settle.specs.Lines.{plies}
-use Rattle.mate_settle.specs.Steps.{left_after}
+use Rattle.mate_fact.specs.InFrame.{left_after}
 use Rattle.mate_showing.specs.Tables.{nodes, highest, most, Stands, IsLed, AreEdges, IsRow, IsSound}
 
 lt_true : (m n : ℕ) → m < n → nat_lt m n ≡ true

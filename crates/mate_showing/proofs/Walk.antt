@@ -16,7 +16,7 @@ use Rattle.mate_fact.specs.InFrame as In
 use Rattle.mate_settle.specs.Choices.{some_wins, IsChoice}
 use Rattle.mate_settle.specs.declared.choosing.WinningMove.{WinningMove}
 use Rattle.mate_settle.specs.Lines.{plies, lines_within, lines_after, seen_in}
-use Rattle.mate_settle.specs.Steps.{left_after}
+use Rattle.mate_fact.specs.InFrame.{left_after}
 use Rattle.strategy.specs.declared.nodes.Edge.{Edge}
 use Rattle.strategy.specs.declared.nodes.Node.{Node}
 use Rattle.mate_showing.specs.declared.plan.StrategyPlan.{StrategyPlan}

@@ -13,7 +13,7 @@ use Rattle.forced_wins.specs.Tables.{Accessors}
 use Rattle.strategy.specs.declared.nodes.Edge.{Edge}
 use Rattle.strategy.specs.declared.nodes.Node.{Node}
 use Rattle.mate_settle.specs.Lines.{plies}
-use Rattle.mate_settle.specs.Steps.{left_after}
+use Rattle.mate_fact.specs.InFrame.{left_after}
 use Rattle.mate_showing.specs.declared.plan.StrategyPlan.{StrategyPlan}
 use Rattle.mate_showing.specs.Reached.{IsReached, OnLine}
 

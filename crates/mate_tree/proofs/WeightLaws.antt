@@ -1,5 +1,5 @@
 -- The equations of the nodes that a tree may enter.
-use Rattle.std.proofs.Common.{◌≡◌, inl, inr, ℕ, zero, suc, ◌+◌, ◌-◌, ◌*◌, ◌<◌, ◌≤◌, List, [], ◌∷◌, map, get_or, set, remove, length, Bool, true, false, not, if◌then◌else◌, Some, slice_get, refl, ap, sym, ◌∙◌, subst, arith, rules}
+use Rattle.std.proofs.Common.{◌≡◌, inl, ℕ, zero, suc, ◌+◌, ◌-◌, ◌*◌, ◌<◌, ◌≤◌, List, [], ◌∷◌, map, get_or, set, remove, length, Bool, true, false, not, if◌then◌else◌, Some, slice_get, refl, ap, sym, ◌∙◌, subst, arith, rules}
 use Rattle.std.specs.List.{All, sum_by}
 use Rattle.std.proofs.lemmas.List.Sums.{sum_by-cons, sum_by-set, sum_by-remove}
 use Rattle.std.proofs.lemmas.Option.{slice_get-get_or}
@@ -11,7 +11,7 @@ use Rattle.legality.specs.Stance.{Stance, legal_in, repeat_in}
 use Rattle.mate_core.specs.declared.frame.Frame.{Frame}
 use Rattle.mate_settle.specs.Lines.{lines_after, lines_within, plies, seen_in}
 use Rattle.mate_settle.proofs.Lines.{lines-after, lines-some, plies-after, plies_some}
-use Rattle.mate_tree.specs.declared.node.Node.{Node, out-Node}
+use Rattle.mate_tree.specs.declared.node.Node.{Node}
 use Rattle.mate_tree.specs.declared.node.Node.TheFolds.{fold_out-Node}
 use Rattle.mate_tree.specs.declared.node.Node.TheOpen.{Node-F}
 use Rattle.mate_tree.specs.declared.node.Node.TheViews.{roll-Node, the_lemmas}

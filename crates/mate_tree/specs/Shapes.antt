@@ -4,7 +4,7 @@ use Rattle.std.specs.List.{All}
 use Rattle.foundation.specs.Member.{Lists, Member}
 use Rattle.legality.specs.Stance.{Stance, after, legal_in}
 use Rattle.mate_core.specs.declared.frame.Frame.{Frame}
-use Rattle.mate_settle.specs.Steps.{left_after}
+use Rattle.mate_fact.specs.InFrame.{left_after}
 use Rattle.mate_settle.specs.Tellings.{IsTold}
 use Rattle.mate_tree.specs.declared.growing.Step.{Step}
 use Rattle.mate_tree.specs.declared.node.Node.{Node, out-Node}

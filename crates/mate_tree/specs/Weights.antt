@@ -1,5 +1,5 @@
 -- How many nodes a tree may still enter: as many as there are lines, for each ply that is left.
-use Rattle.std.specs.Prelude.{ℕ, ◌+◌, ◌-◌, ◌*◌, ◌≤◌, List, Option, Some, None, if◌then◌else◌, map}
+use Rattle.std.specs.Prelude.{ℕ, ◌+◌, ◌-◌, ◌*◌, ◌≤◌, List, Option, Some, None, if◌then◌else◌}
 use Rattle.std.specs.List.{sum_by}
 use Rattle.mate_core.specs.declared.frame.Frame.{Frame}
 use Rattle.mate_settle.specs.Lines.{lines_within, plies, seen_in}

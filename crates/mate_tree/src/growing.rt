@@ -1,8 +1,6 @@
 //! How a tree grows.
-ghost use Rattle.std.specs.Prelude.{◌≡◌, ◌≤◌, true, false, IfOk, IfSome, OnOk, IsErrOf};
-ghost use Rattle.foundation.specs.Member.{Member};
-ghost use Rattle.legality.specs.Stance.{legal_in};
-ghost use Rattle.mate_settle.specs.Steps as Steps;
+ghost use Rattle.std.specs.Prelude.{◌≡◌, ◌≤◌, true, IfOk, IfSome, OnOk, IsErrOf};
+ghost use Rattle.mate_fact.specs.InFrame as In;
 ghost use Rattle.mate_settle.specs.Tellings.{IsTold};
 ghost use Rattle.rules_model.specs.Sides.{same_side};
 ghost use Rattle.mate_tree.specs.Shapes as Shapes;
@@ -27,7 +25,7 @@ pub struct Step {
 
 /// How many moves the attacker has left after a move.
 fn left_after(attacking: bool, n: u16) -> u16
-    ensures { result ≡ Steps.left_after attacking n }
+    ensures { result ≡ In.left_after attacking n }
 {
     if attacking { n.saturating_sub(1) } else { n }
 }

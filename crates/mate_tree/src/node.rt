@@ -1,5 +1,5 @@
 //! The nodes of a tree.
-ghost use Rattle.std.specs.Prelude.{◌≡◌, true, false};
+ghost use Rattle.std.specs.Prelude.{true, false};
 ghost use Rattle.mate_tree.specs.Shapes as Shapes;
 
 use crate::numbers::best_child;

@@ -41,7 +41,7 @@ use Rattle.one_shot_checks.specs.declared.no_answer.NoAnswer.{NoAnswer}
 use Rattle.one_shot_checks.specs.declared.no_answer.NoAnswer.TheVariants as no_answer
 use Rattle.one_shot_checks.specs.declared.stop.Stop.TheVariants as stop
 use Rattle.one_shot_checks.specs.Certificates.{IsMet, Meets, PrintsHelp, PrintsSelf, SaysCertCheck, SaysStipulated, SaysVerdict, by_problem, lines_after, lines_of_cert_check, stipulated_in, verdict_by, verdict_in, with_cert}
-use Rattle.one_shot_checks.specs.CertView.{States}
+use Rattle.one_shot_checks.specs.CheckView.{States}
 use Rattle.one_shot_checks.specs.Fault.{error_line, fault_status, fault_text}
 use Rattle.one_shot_checks.specs.GameTexts.{cert_or_none, help_mate_of, self_mate_of}
 use Rattle.one_shot_checks.specs.NoAnswerView.{Answers, IsUnheard, cert_no_answer, game_no_answer}

@@ -1,6 +1,5 @@
--- What the code answers of what the input states, as the definitions have it.
+-- What the code answers of what the input of `check` and of `stipulate check` states, as the definitions have it.
 use Rattle.std.specs.Prelude.{◌≡◌, ℕ, List, Result, Ok, Err, codes, ⊤}
-use Rattle.proof_text.specs.declared.proof.Proof.{Proof}
 use Rattle.strategy_check.specs.declared.verdict.Verdict.{Verdict}
 use Rattle.strategy_check.specs.declared.verdict.Verdict.TheVariants.{Wins}
 use Rattle.strategy_check.specs.Verdicts.{verdict_text}
@@ -11,8 +10,8 @@ use Rattle.one_shot_checks.specs.declared.stop.Stop.TheVariants as stop
 use Rattle.one_shot_checks.specs.Fault.{error_line}
 
 -- the lines state this, or have this fault; where the run was cut short nothing is known of them
-abbrev pub States : Result Proof Fault → Result Proof NoAnswer → Type 0
-States said (Ok p) = said ≡ Ok p
+abbrev pub States : {A : Type 0} → Result A Fault → Result A NoAnswer → Type 0
+States said (Ok stated) = said ≡ Ok stated
 States said (Err no_answer.Usage) = ⊥
 States said (Err (no_answer.Fault fault)) = said ≡ Err fault
 States said (Err (no_answer.Stop stop.Source)) = ⊤

@@ -1,4 +1,3 @@
-pub mod CertView
 pub mod Certificates
 pub mod CheckView
 pub mod Checking

@@ -4,7 +4,7 @@ ghost use Rattle.io_ports.specs.Cause.{HasCause};
 ghost use Rattle.variant_rules.specs.Entries.{entries};
 ghost use Rattle.game_text.specs.HeardLines.{HeardLines};
 ghost use Rattle.one_shot_checks.specs.Certificates as Said;
-ghost use Rattle.one_shot_checks.specs.CertView.{States};
+ghost use Rattle.one_shot_checks.specs.CheckView.{States};
 ghost use Rattle.one_shot_checks.specs.NoAnswerView.{Answers, IsUnheard};
 
 use crate::{Fault, NoAnswer};

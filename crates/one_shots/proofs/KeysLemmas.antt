@@ -1,5 +1,5 @@
 -- What `keys` says of its input.
-use Rattle.std.proofs.Common.{◌≡◌, ◌⊎◌, ℕ, List, inl, inr, refl, sym, subst, ◌∙◌, Option, Ok, Err}
+use Rattle.std.proofs.Common.{◌≡◌, ◌⊎◌, ℕ, List, inl, inr, refl, sym, subst, ◌∙◌, Ok, Err}
 use Rattle.std.specs.declared.result.Result.{Result}
 use Rattle.io_ports.specs.Lines.{Line}
 use Rattle.variant_rules.specs.Entries.{Named}

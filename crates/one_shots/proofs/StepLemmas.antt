@@ -1,5 +1,5 @@
 -- One move of a random game.
-use Rattle.std.proofs.Common.{◌≡◌, ℕ, zero, suc, arith, ◌%◌, ◌<◌, List, [], length, get_or, slice_get, Option, Some, None, refl, ap, sym, ◌∙◌, subst}
+use Rattle.std.proofs.Common.{◌≡◌, ℕ, zero, suc, arith, ◌%◌, ◌<◌, List, [], length, get_or, slice_get, Some, refl, ap, sym, ◌∙◌}
 use Rattle.std.proofs.lemmas.Option.{slice_get-get_or}
 use Rattle.rand_pcg.specs.Lcg.{Lcg}
 use Rattle.rand_pcg.specs.Pcg.{pcg32}
@@ -8,7 +8,7 @@ use Rattle.rules_model.specs.declared.moves.Outcome.{Outcome}
 use Rattle.rules_model.specs.declared.moves.Outcome.TheVariants.{Ongoing, Won, Drawn}
 use Rattle.rules_model.specs.Games.{result}
 use Rattle.game_play.specs.Played.{Played, legal_in, longer, story}
-use Rattle.one_shots.specs.Generate.{picked, random_game}
+use Rattle.one_shots.specs.Generate.{random_game}
 
 -- the game has ended
 pub ended : (generator : Lcg) (g : Played) (o : Outcome) → result g.rules (story g) ≡ o → (o ≡ Ongoing → ⊥) → (plies : ℕ) → random_game (suc plies) generator g ≡ g

@@ -26,7 +26,8 @@ use Rattle.pn_search.specs.declared.numbers.Pair.{Pair}
 use Rattle.pn_search.specs.Meaning.{moves_win, root_pair, won_pair, lost_pair, PairDecides}
 use Rattle.pn_search.specs.Numbers.{plus, sum_of, least_of, own_number, inner_pair, open_pair, of_children, pair_at, numbers_of, pairs_of}
 use Rattle.pn_search.specs.Shapes.{AreInPlace}
-use Rattle.pn_search.specs.Trees.{ProofTree, left_after, end_at, IsPn}
+use Rattle.mate_fact.specs.InFrame.{left_after}
+use Rattle.pn_search.specs.Trees.{ProofTree, end_at, IsPn}
 use Rattle.pn_search.proofs.Carried.{numbered, length-pairs}
 use Rattle.pn_search.proofs.Expanded.{end-inner}
 use Rattle.pn_search.proofs.Fair.{IsFair, fair_at, settled-won, settled-lost}

@@ -17,7 +17,8 @@ use Rattle.pn_search.specs.declared.node.Node.{Node}
 use Rattle.pn_search.specs.declared.node.State.{State}
 use Rattle.pn_search.specs.declared.node.State.TheVariants.{Open, Won, Lost, Inner}
 use Rattle.pn_search.specs.Shapes.{AreItsChildren, AreInPlace}
-use Rattle.pn_search.specs.Trees.{position_after, left_after, child_node, children_of, end_at, state_by, expanded_with, expanded_at}
+use Rattle.mate_fact.specs.InFrame.{left_after}
+use Rattle.pn_search.specs.Trees.{position_after, child_node, children_of, end_at, state_by, expanded_with, expanded_at}
 use Rattle.pn_search.proofs.Lists.{get-left, get-right, there_is, some_same}
 
 module _ (f : Frame) where

@@ -12,7 +12,8 @@ use Rattle.pn_search.specs.declared.node.State.{State}
 use Rattle.pn_search.specs.declared.node.State.TheVariants.{Open, Won, Lost, Inner}
 use Rattle.pn_search.specs.declared.numbers.Pair.{Pair}
 use Rattle.pn_search.specs.Numbers.{pairs_of}
-use Rattle.pn_search.specs.Trees.{ProofTree, HasGrown, left_after, end_at, grown, is_settled, most_proving}
+use Rattle.mate_fact.specs.InFrame.{left_after}
+use Rattle.pn_search.specs.Trees.{ProofTree, HasGrown, end_at, grown, is_settled, most_proving}
 
 -- it has grown from an ongoing root, and these are the pairs of its nodes
 pub record IsKept (t : ProofTree) (ps : List Pair) : Type 0 where

@@ -1,5 +1,5 @@
 -- Proof trees, and how they grow.
-use Rattle.std.specs.Prelude.{◌≡◌, ℕ, zero, suc, ◌+◌, ◌-◌, ◌==◌, List, [], ◌∷◌, ◌++◌, map, length, Bool, true, false, ◌&&◌, ◌||◌, Option, Some, None, option_and_then, position, slice_get, slice_set, if◌then◌else◌}
+use Rattle.std.specs.Prelude.{◌≡◌, ℕ, zero, suc, ◌+◌, ◌==◌, List, [], ◌∷◌, ◌++◌, map, length, Bool, true, false, ◌&&◌, ◌||◌, Option, Some, None, option_and_then, position, slice_get, slice_set, if◌then◌else◌}
 use Rattle.std.specs.Option.{option_map}
 use Rattle.rules_model.specs.declared.board.Position.{Position}
 use Rattle.rules_model.specs.declared.moves.Move.{Move}
@@ -10,6 +10,7 @@ use Rattle.rules_model.specs.Repeats.{repeat_of}
 use Rattle.rules_model.specs.Sides.{same_side}
 use Rattle.forced_wins.specs.Wins.{near_end}
 use Rattle.mate_core.specs.declared.frame.Frame.{Frame}
+use Rattle.mate_fact.specs.InFrame.{left_after}
 use Rattle.pn_search.specs.declared.node.Node.{Node}
 use Rattle.pn_search.specs.declared.node.State.{State}
 use Rattle.pn_search.specs.declared.node.State.TheVariants.{Open, Won, Lost, Inner}
@@ -28,11 +29,6 @@ pub record ProofTree : Type 0 where
 abbrev pub root_node : Frame → Position → ℕ → Node
 root_node f root n =
     record { parent = 0; chosen = None; left = n; attacking = same_side root.side f.attacker; state = Open }
-
--- how many moves the attacker has left after a move, his own or the other side's
-abbrev pub left_after : Bool → ℕ → ℕ
-left_after true n = n - 1
-left_after false n = n
 
 -- the child of the node with the number `at` by the move, as it is made
 abbrev pub child_node : Frame → ℕ → Node → Position → Move → Node

@@ -2,6 +2,7 @@
 ghost use Rattle.std.specs.Prelude.{◌≡◌, ◌+◌, ◌<◌, ◌≤◌, ◌++◌, ◌^◌, ℕ, true, Some, None, IfOk, OnOk, OnErr, length, map, replicate, slice_get, slice_set};
 ghost use Rattle.legality.specs.Stance.{legal_in};
 ghost use Rattle.rules_model.specs.Ready.{IsReady};
+ghost use Rattle.mate_fact.specs.InFrame as In;
 ghost use Rattle.pn_search.specs.declared.node.Node.{Node};
 ghost use Rattle.pn_search.specs.declared.node.State.TheVariants.{Inner};
 ghost use Rattle.pn_search.specs.Kept as Kept;
@@ -68,7 +69,7 @@ fn state_by(end: Option<bool>, node: &Node) -> Option<State>
 
 fn left_after(node: &Node) -> u8
     requires { node.now.attacking ≡ true → 0 < node.now.left }
-    ensures { result ≡ Trees.left_after node.now.attacking node.now.left }
+    ensures { result ≡ In.left_after node.now.attacking node.now.left }
 {
     if node.attacking {
         node.left - 1

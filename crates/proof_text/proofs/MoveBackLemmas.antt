@@ -1,5 +1,5 @@
 -- The moves of a game, written line by line, are played again.
-use Rattle.std.proofs.Common.{◌≡◌, ℕ, ◌+◌, true, List, [], ◌∷◌, ◌++◌, Some, Result, Ok, length, map, sym, ap, subst, ◌∙◌, arith, append_assoc, append-nil, length-append}
+use Rattle.std.proofs.Common.{◌≡◌, ℕ, ◌+◌, true, List, [], ◌∷◌, ◌++◌, Ok, length, map, sym, ap, subst, ◌∙◌, arith, append_assoc, append-nil, length-append}
 use Rattle.foundation.specs.Member.{Member}
 use Rattle.io_ports.specs.Lines.{Line, Text}
 use Rattle.rules_model.specs.declared.board.Position.{Position}

@@ -1,6 +1,6 @@
 -- What a proof text says: a game, a goal and a strategy, or the first fault; and how many of its lines tell it. Each
 -- definition takes the lines from one of them on, from the last part to the first.
-use Rattle.std.specs.Prelude.{◌≡◌, ℕ, zero, suc, ◌+◌, ◌-◌, Bool, true, false, List, [], ◌∷◌, ◌++◌, drop, take, length, codes, Option, None, Some, option_and_then, Result, Ok, Err, MatchResult, if◌then◌else◌}
+use Rattle.std.specs.Prelude.{◌≡◌, ℕ, zero, suc, ◌+◌, ◌-◌, Bool, false, List, [], ◌∷◌, ◌++◌, drop, take, length, codes, Option, None, Some, option_and_then, Result, Ok, Err, MatchResult, if◌then◌else◌}
 use Rattle.io_ports.specs.Lines.{Line, Text}
 use Rattle.rules_model.specs.declared.board.Position.{Position}
 use Rattle.rules_model.specs.declared.rules.Rules.{Rules}

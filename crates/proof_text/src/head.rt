@@ -1,5 +1,5 @@
 //! Takes the lines of the head.
-ghost use Rattle.std.specs.Prelude.{◌≡◌, ◌+◌, ◌≤◌, [], IfOk};
+ghost use Rattle.std.specs.Prelude.{◌+◌, ◌≤◌, [], IfOk};
 ghost use Rattle.io_ports.specs.Cause.{HasCause};
 ghost use Rattle.rules_model.specs.Fit.{IsFit};
 ghost use Rattle.game_play.specs.declared.game.TheConstants.{MOST_PLIES};

@@ -1,8 +1,7 @@
 //! A text in memory as a source of its lines.
 ghost use Rattle.std.specs.Prelude.{◌≡◌, Some};
 ghost use Rattle.std.specs.Io.KnownBytes.{IsAtEnd};
-ghost use Rattle.io_ports.specs.Cause.{HasCause};
-ghost use Rattle.io_ports.specs.Source.{Takes, Untold, got_lines, polled_lines};
+ghost use Rattle.io_ports.specs.Source.{Takes, Untold, got_lines};
 
 use io_ports::{Got, LineBuf, MAX_LINE, Polled, Source};
 use strategy::cut_line;

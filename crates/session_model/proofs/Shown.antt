@@ -21,7 +21,7 @@ use Rattle.rules_model.proofs.ResultLaws.{own_end-none}
 use Rattle.forced_wins.specs.Strategies.{IsWonAlong, behind, moves_left}
 use Rattle.forced_wins.specs.Wins.{blocked}
 use Rattle.forced_wins.specs.Tables as Tables
-use Rattle.forced_wins.specs.Tables.{AreFaultless, IsFaultless, fits_edge, fits_number, node_end, root_fits, wrong_move}
+use Rattle.forced_wins.specs.Tables.{IsFaultless, fits_number, root_fits, wrong_move}
 use Rattle.forced_wins.specs.Views.{seen_by, as_any, won_by}
 use Rattle.forced_wins.proofs.Rules.{laws}
 use Rattle.forced_wins.proofs.TableLaws.{both, edge-at, holds, led, live-at}

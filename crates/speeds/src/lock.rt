@@ -1,5 +1,5 @@
 //! How many calls a second a lock takes from one, two and four threads.
-ghost use Rattle.std.specs.Prelude.{◌≡◌, ◌+◌, ◌<◌, ◌≤◌, IfOk};
+ghost use Rattle.std.specs.Prelude.{◌+◌, ◌<◌, ◌≤◌};
 ghost use Rattle.fact_lock.specs.Passes.{IsPassOf};
 
 use crate::tally::Tally;

@@ -1,12 +1,11 @@
 -- What was found of a problem is its answer.
-use Rattle.std.proofs.Common.{◌≡◌, ℕ, Option, Some, None, refl, sym, ap, subst, ◌∙◌}
+use Rattle.std.proofs.Common.{◌≡◌, Option, Some, None, refl, sym, subst, ◌∙◌}
 use Rattle.rules_model.specs.Games.{Story, story_from}
 use Rattle.forced_wins.specs.Wins.{IsInLimit}
 use Rattle.game_play.specs.Played.{Played, story}
 use Rattle.mate_search.specs.Least.{least}
 use Rattle.suite.specs.declared.winning.LeastWin.{LeastWin}
 use Rattle.suite.specs.Winning.{IsLeastWin, least_for}
-use Rattle.suite.specs.declared.problem.Answer.{Answer}
 use Rattle.suite.specs.declared.problem.Problem.{Problem}
 use Rattle.suite.specs.Answers.{IsAnswer}
 use Rattle.suite.specs.Problems.{game_of, least_of, started}

@@ -1,5 +1,5 @@
 -- Whether a side has won without another move of its own.
-use Rattle.std.specs.Prelude.{◌≡◌, Bool, false, List}
+use Rattle.std.specs.Prelude.{Bool, false, List}
 use Rattle.std.specs.List.{list_all}
 use Rattle.rules_model.specs.declared.board.Side.{Side}
 use Rattle.rules_model.specs.declared.moves.Move.{Move}

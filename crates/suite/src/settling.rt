@@ -1,5 +1,5 @@
 //! One problem, solved by one worker.
-ghost use Rattle.std.specs.Prelude.{◌≡◌, IfOk};
+ghost use Rattle.std.specs.Prelude.{IfOk};
 ghost use Rattle.suite.specs.Winning.{IsLeastWin};
 ghost use Rattle.suite.specs.Answers.{IsAnswer};
 ghost use Rattle.suite.specs.Problems.{IsFair, game_of};

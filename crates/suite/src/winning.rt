@@ -1,5 +1,5 @@
 //! Within how many moves a side wins a game, by one worker.
-ghost use Rattle.std.specs.Prelude.{◌≡◌, ◌≤◌, IfOk};
+ghost use Rattle.std.specs.Prelude.{◌≤◌, IfOk};
 ghost use Rattle.forced_wins.specs.Wins.{IsInLimit};
 ghost use Rattle.game_play.specs.Played.{story};
 ghost use Rattle.mate_search.specs.Solves.{IsFrameFor};

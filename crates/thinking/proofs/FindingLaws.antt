@@ -13,7 +13,7 @@ use Rattle.game_play.specs.Played.{Played, IsPlayed, legal_in}
 use Rattle.session_model.proofs.Shown.{evidence_is_sound, roots_of_shown}
 use Rattle.session_model.specs.Mates as Mates
 use Rattle.session_model.specs.Mates.{IsEvidence, IsShown, counters_of, favoured, mover, position_at, root_move}
-use Rattle.session_model.specs.Thinking.{Task, AttainsAt, IsAhead, IsBehind, IsReport, IsScore, IsSettled, mate_sought, value_at}
+use Rattle.session_model.specs.Thinking.{Task, AttainsAt, IsAhead, IsBehind, IsScore, IsSettled, mate_sought, value_at}
 use Rattle.session_model.specs.Thinking as Thinking
 use Rattle.strategy.specs.declared.nodes.Strategy.{Strategy}
 use Rattle.thinking.specs.declared.depth_result.CutSolve.{CutSolve}

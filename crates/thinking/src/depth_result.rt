@@ -1,5 +1,5 @@
 //! What is found at a depth.
-ghost use Rattle.std.specs.Prelude.{◌≡◌, ◌<◌, length, None};
+ghost use Rattle.std.specs.Prelude.{◌≡◌, ◌<◌, length};
 ghost use Rattle.session_model.specs.Mates.{counters_of};
 ghost use Rattle.session_model.specs.Thinking.{announced_by};
 ghost use Rattle.thinking.specs.Views.{evidence_of, announced_seen, score_seen};

@@ -19,7 +19,7 @@ use Rattle.game_play.specs.Played.{Played, legal_in}
 use Rattle.watching.specs.declared.halt.Cut.{Cut}
 use Rattle.watching.specs.declared.halt.Cut.TheVariants as cut
 use Rattle.watching.specs.Events.{Event, Hears, Says, Reads, Opens, AreUnstopped, Listens, opened, opened_at}
-use Rattle.watching.specs.Looks.{Moved, Ran, held}
+use Rattle.watching.specs.Looks.{Moved, Ran}
 use Rattle.session_model.proofs.Wider.{uci_is_wider}
 use Rattle.session_model.specs.Events.{IsStopped}
 use Rattle.session_model.specs.Mates.{mover}

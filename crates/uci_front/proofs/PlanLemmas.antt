@@ -5,7 +5,7 @@ use Rattle.std.proofs.lemmas.Bool.{and_parts, leb-true}
 use Rattle.foundation.specs.Numbers.{within}
 use Rattle.session_model.specs.Numbers.{number_from, number_read}
 use Rattle.session_model.specs.UciGo
-use Rattle.session_model.specs.UciGo.{Go, GoRead, GoWord, Key, asks_nothing, begun, filled, go_of, go_read, go_word, go_words, is_held, key_number, last_depth, last_mate, roots_of, share_of, time_for, with_number, with_read}
+use Rattle.session_model.specs.UciGo.{Go, GoRead, GoWord, Key, asks_nothing, filled, go_of, go_read, go_word, go_words, is_held, key_number, last_depth, last_mate, roots_of, share_of, time_for, with_number, with_read}
 use Rattle.session_model.specs.UciWords.{Word}
 use Rattle.std.specs.Option.{option_map}
 use Rattle.game_play.specs.Played.{legal_in}

@@ -1,10 +1,5 @@
 -- What is answered to a line that asks no search.
 use Rattle.std.specs.Prelude.{◌≡◌, ◌⊎◌, ℕ, List, [], ◌∷◌, ◌++◌, map, Option, Some, None, Result, Ok, Err}
-use Rattle.std.specs.Borrow.{Bor}
-use Rattle.std.specs.List.{filter}
-use Rattle.std.specs.Option.{option_copied}
-use Rattle.foundation.specs.Cuts.{is_blank, parts_after}
-use Rattle.game_text.specs.Playing.{is_word}
 use Rattle.io_ports.specs.Files.{Found, Read}
 use Rattle.io_ports.specs.Lines.{Line}
 use Rattle.session_model.specs.Turns.{Turn}

@@ -1,5 +1,5 @@
 -- What a `go` that searches comes to: what is said before its best move, and what cut it.
-use Rattle.std.specs.Prelude.{◌≡◌, true, ℕ, List, [], ◌∷◌, ◌++◌, Option, Some, None}
+use Rattle.std.specs.Prelude.{◌≡◌, true, ℕ, List, [], ◌∷◌, ◌++◌, Option, Some}
 use Rattle.io_ports.specs.declared.dialect.Dialect.TheVariants.{Uci}
 use Rattle.io_ports.specs.Heard.{stops}
 use Rattle.io_ports.specs.Lines.{Line, Text}

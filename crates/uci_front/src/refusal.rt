@@ -1,6 +1,5 @@
 //! Why a line sets nothing.
-ghost use Rattle.std.specs.Prelude.{◌≡◌, ◌++◌, IfOk, OnOk, OnErr, codes};
-ghost use Rattle.fen_model.specs.Fault as fen;
+ghost use Rattle.std.specs.Prelude.{◌≡◌, ◌++◌, codes};
 ghost use Rattle.variant_model.specs.Fault as section;
 ghost use Rattle.session_model.specs.UciState as UciState;
 ghost use Rattle.variant_rules.specs.Loading.{load_fault_text};

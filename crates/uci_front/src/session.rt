@@ -1,8 +1,7 @@
 //! What a UCI session keeps between lines, and what lines set.
-ghost use Rattle.std.specs.Prelude.{◌≡◌, ◌≤◌, ℕ, IfOk, OnOk, OnErr, Some, codes, unwrap_or, [], List};
+ghost use Rattle.std.specs.Prelude.{◌≡◌, ◌≤◌, IfOk, OnOk, OnErr, Some, codes, unwrap_or};
 ghost use Rattle.session_model.specs.declared.options.TheConstants.{LEAST_THREADS, MOST_THREADS};
 ghost use Rattle.std.specs.Option.{option_copied};
-ghost use Rattle.variant_ini.specs.Section.{Section};
 ghost use Rattle.variant_rules.specs.Entries.{entries};
 ghost use Rattle.session_model.specs.UciState as UciState;
 ghost use Rattle.session_model.specs.UciState.{first_state};

@@ -12,7 +12,6 @@ use Rattle.std.proofs.lemmas.List.{append-nil, drop_all, map-append, take_all}
 use Rattle.foundation.specs.Cuts.{is_blank}
 use Rattle.io_ports.specs.Command.{first_command}
 use Rattle.io_ports.specs.Lines as lines
-use Rattle.io_ports.specs.Lines.{Text}
 use Rattle.io_ports.specs.declared.command.UciWord.{UciWord}
 use Rattle.io_ports.specs.declared.command.UciWord.TheVariants as word
 use Rattle.io_ports.specs.declared.source.Got.{Got}

@@ -1,7 +1,7 @@
 //! What the words after `go` ask.
 ghost use Rattle.std.specs.Prelude.{◌≡◌, IfOk};
 ghost use Rattle.session_model.specs.UciGo as UciGo;
-ghost use Rattle.session_model.specs.UciGo.{GoRead, go_of, go_read, with_read};
+ghost use Rattle.session_model.specs.UciGo.{go_of, go_read, with_read};
 ghost use Rattle.uci_lines.specs.View.{texts};
 ghost use Rattle.uci_lines.specs.GoView.{awaited_seen, go_seen, go_word_seen, key_seen, read_seen};
 

@@ -4,8 +4,6 @@ ghost use Rattle.session_model.specs.Deadlines as Deadlines;
 ghost use Rattle.session_model.specs.UciGo as UciGo;
 ghost use Rattle.uci_lines.specs.GoView.{go_seen};
 ghost use Rattle.uci_lines.specs.View.{texts};
-ghost use Rattle.std.specs.List.{list_any};
-ghost use Rattle.rules_model.specs.MoveText.{text_of};
 
 use crate::Go;
 use crate::words::is_text;

@@ -1,5 +1,4 @@
 use Rattle.std.proofs.Common.{◌≡◌, Ok, List, ℕ, subst}
-use Rattle.std.specs.Prelude.{Result}
 use Rattle.io_ports.specs.Lines.{Line, lines_of}
 use Rattle.game_play.specs.Played.{story}
 use Rattle.proof_text.proofs.ReadingLemmas.{text-holds}

@@ -2,7 +2,6 @@ use Rattle.std.proofs.Common.{◌≡◌, Ok, arith}
 use Rattle.std.specs.Prelude.{Result}
 use Rattle.std.proofs.lemmas.Result.{err_from_is_err_and}
 use Rattle.game_text.proofs.HeardLemmas.{heard_nothing, heard_so, same_needed}
-use Rattle.stipulation.specs.declared.cert.Cert.{Cert}
 use Rattle.cert_text.specs.declared.fault.CertFault.{CertFault}
 use Rattle.cert_text.specs.Reading.{SoFar}
 use Rattle.game_play.specs.Played.{story}

@@ -1,9 +1,8 @@
-use Rattle.std.proofs.Common.{◌≡◌, Err, ap, arith, refl, rules}
+use Rattle.std.proofs.Common.{◌≡◌, Err, ap, arith, rules}
 use Rattle.legality.specs.Stance.{Stance}
 use Rattle.watching.specs.LookLaws.{on_ok_of}
 use Rattle.mate_search.proofs.HandedLaws.{handed_more}
-use Rattle.mate_search.proofs.RaceLaws.{root-rules}
-use Rattle.mate_search.specs.Races.{race_lines, root_lines, tree_lines}
+use Rattle.mate_search.specs.Races.{race_lines, tree_lines}
 use Rattle.mate_search.proofs.job.take_all.Goals as goal
 
 pub returns-in_err-grown-clause-ended : goal.returns-in_err-grown-clause-ended

@@ -1,4 +1,4 @@
-use Rattle.std.proofs.Common.{◌≡◌, ◌+◌, Err, ap, sym, ◌∙◌, arith, rules}
+use Rattle.std.proofs.Common.{◌≡◌, ◌+◌, Err, ap, ◌∙◌, arith, rules}
 use Rattle.game_play.specs.Played.{story}
 use Rattle.legality.specs.Stance.{Stance}
 use Rattle.mate_search.specs.Races.{closing_lines, tree_lines}

@@ -1,4 +1,4 @@
-use Rattle.std.proofs.Common.{◌≡◌, subst, rules}
+use Rattle.std.proofs.Common.{subst, rules}
 use Rattle.mate_core.specs.declared.frame.Frame.{Frame}
 use Rattle.mate_tree.specs.Shapes.{IsStep}
 use Rattle.mate_search.proofs.HandedLaws.{handed_none}

@@ -1,4 +1,4 @@
-use Rattle.std.proofs.Common.{◌≡◌, ◌≤◌, ◌-◌, Err, refl, ap, ◌∙◌, arith, rules}
+use Rattle.std.proofs.Common.{◌≡◌, ◌-◌, Err, refl, ap, ◌∙◌, arith, rules}
 use Rattle.mate_core.specs.declared.frame.Frame.{Frame}
 use Rattle.mate_tree.proofs.WeightLaws.{leaves-lines}
 use Rattle.mate_tree.specs.Weights.{forest}

@@ -1,6 +1,7 @@
 use Rattle.std.proofs.Common.{sym, subst}
 use Rattle.mate_core.specs.declared.frame.Frame.{Frame}
-use Rattle.mate_settle.specs.Steps.{Decides, left_after}
+use Rattle.mate_fact.specs.InFrame.{left_after}
+use Rattle.mate_settle.specs.Steps.{Decides}
 use Rattle.mate_settle.specs.Tellings.{IsTold}
 use Rattle.mate_settle.proofs.Settled.{decides-by, told-one, told-short}
 use Rattle.legality.specs.Stance.{after}

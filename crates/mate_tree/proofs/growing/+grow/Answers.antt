@@ -1,11 +1,10 @@
-use Rattle.std.proofs.Common.{◌≡◌, ◌≤◌, ◌<◌, ◌+◌, ◌-◌, true, length, get_or, set, remove, Option, Some, Err, ap, sym, ◌∙◌, subst, arith, rules}
+use Rattle.std.proofs.Common.{◌≡◌, ◌<◌, ◌-◌, true, length, set, remove, Option, Err, ap, ◌∙◌, subst, arith, rules}
 use Rattle.mate_core.specs.declared.frame.Frame.{Frame}
 use Rattle.mate_settle.specs.declared.told.Told.{Told}
 use Rattle.mate_settle.specs.Lines.{lines_within, seen_in}
-use Rattle.mate_tree.specs.Shapes.{chosen_at, children_at, is_opened, left_at}
+use Rattle.mate_tree.specs.Shapes.{children_at, is_opened, left_at}
 use Rattle.mate_tree.specs.Weights.{Spends, forest, lines_at}
 use Rattle.mate_tree.proofs.WeightLaws.{child-same, forest-at, forest-taken, lines-opened, rolled-children, rolled-opened, same-child}
-use Rattle.rules_model.specs.Next.{next}
 use Rattle.mate_tree.proofs.growing.+grow.Goals as goal
 
 pub grow_child-returns-in_err-told-clause-ended : goal.grow_child-returns-in_err-told-clause-ended

@@ -1,7 +1,7 @@
 use Rattle.std.proofs.Common.{sym, subst}
 use Rattle.legality.specs.Stance.{after}
 use Rattle.mate_core.specs.declared.frame.Frame.{Frame}
-use Rattle.mate_settle.specs.Steps.{left_after}
+use Rattle.mate_fact.specs.InFrame.{left_after}
 use Rattle.mate_settle.specs.Tellings.{IsTold}
 use Rattle.mate_tree.proofs.WeightLaws.{member-not-stuck}
 use Rattle.mate_tree.proofs.growing.by_step.Goals as goal

@@ -1,9 +1,8 @@
-use Rattle.std.proofs.Common.{◌≡◌, ◌≤◌, ◌-◌, false, Err, arith, rules}
+use Rattle.std.proofs.Common.{◌≡◌, ◌-◌, false, Err, arith, rules}
 use Rattle.foundation.specs.Tests.{is_nil}
 use Rattle.legality.specs.Stance.{legal_in, repeat_in}
 use Rattle.rules_model.specs.Legal.{is_stuck}
 use Rattle.mate_tree.specs.Shapes.{is_last}
-use Rattle.mate_tree.specs.Weights.{lines_at}
 use Rattle.mate_tree.proofs.WeightLaws.{closed-some, closed-within, nil-listed, opened-less, some-of-last}
 use Rattle.mate_tree.proofs.opening.open.Goals as goal
 

@@ -7,7 +7,7 @@ use Rattle.cert_text.specs.View.{HasWhy}
 use Rattle.game_text.proofs.HeardLemmas.{heard_nothing, heard_so}
 use Rattle.one_shot_checks.specs.declared.certificates.Stipulated.{Stipulated}
 use Rattle.one_shot_checks.specs.declared.fault.Fault.{Fault}
-use Rattle.one_shot_checks.specs.CertView.{States}
+use Rattle.one_shot_checks.specs.CheckView.{States}
 use Rattle.one_shot_checks.specs.NoAnswerView.{cert_no_answer}
 use Rattle.one_shot_checks.proofs.CertLemmas.{cert_bad, cert_good, cert_unheard, problem_bad, problem_first, problem_unheard, stated_heard, variants_heard}
 use Rattle.one_shot_checks.proofs.certificates.state.Goals as goal

@@ -1,6 +1,4 @@
-use Rattle.std.proofs.Common.{◌≡◌, ◌-◌, ◌<◌, ◌∙◌, sym, arith, rules}
-use Rattle.one_shots.specs.Generate.{random_game}
-use Rattle.one_shots.specs.Steps.{PlaysOne}
+use Rattle.std.proofs.Common.{◌≡◌, ◌-◌, ◌<◌, ◌∙◌, sym, arith}
 use Rattle.one_shots.proofs.StepLemmas.{none_left, stopped}
 use Rattle.one_shots.proofs.random_play.play_on.Goals as goal
 

@@ -1,4 +1,4 @@
-use Rattle.std.proofs.Common.{◌+◌, [], rules}
+use Rattle.std.proofs.Common.{[], rules}
 use Rattle.proof_text.specs.declared.fault.ProofFault.TheVariants.{Header}
 use Rattle.proof_text.specs.Reading.{pairs_on, rules_on}
 use Rattle.proof_text.specs.Words.{rules_said}

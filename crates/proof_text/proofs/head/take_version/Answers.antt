@@ -1,4 +1,4 @@
-use Rattle.std.proofs.Common.{◌+◌, [], rules}
+use Rattle.std.proofs.Common.{rules}
 use Rattle.proof_text.specs.declared.fault.ProofFault.TheVariants.{Header}
 use Rattle.proof_text.specs.Reading.{proof_on, rules_on, version_said}
 use Rattle.proof_text.proofs.ReadingLemmas.{text-bad, text-goes}

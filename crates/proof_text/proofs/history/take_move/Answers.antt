@@ -1,5 +1,4 @@
-use Rattle.std.proofs.Common.{◌+◌, ap, arith}
-use Rattle.std.proofs.lemmas.Result.{err_from_is_err_and}
+use Rattle.std.proofs.Common.{◌+◌, arith}
 use Rattle.proof_text.specs.declared.fault.ProofFault.TheVariants.{BadHistory}
 use Rattle.proof_text.specs.Reading.{moves_on, played_by}
 use Rattle.proof_text.proofs.ReadingLemmas.{reads-unit}

@@ -5,7 +5,6 @@ use Rattle.std.proofs.lemmas.Result.{err_from_is_err_and}
 use Rattle.rules_model.specs.declared.rules.Rules.{Rules}
 use Rattle.variant_model.specs.declared.fault.SectionFault.{SectionFault}
 use Rattle.variant_rules.specs.View.{lent}
-use Rattle.proof_text.specs.declared.fault.ProofFault.{ProofFault}
 use Rattle.proof_text.specs.declared.fault.ProofFault.TheVariants.{RefusedRules}
 use Rattle.proof_text.specs.declared.source_lines.NoProof.TheVariants.{Faulty}
 use Rattle.proof_text.specs.Reading.{with_rules}

@@ -1,4 +1,4 @@
-use Rattle.std.proofs.Common.{◌≡◌, Ok, List, ℕ, ap, sym, subst, arith}
+use Rattle.std.proofs.Common.{◌≡◌, Ok, List, ℕ, subst}
 use Rattle.std.specs.Prelude.{Result}
 use Rattle.io_ports.specs.Lines.{lines_of}
 use Rattle.proof_text.specs.declared.fault.ProofFault.{ProofFault}

@@ -1,5 +1,5 @@
 use denote.Param.Send.{sendable}
-use Rattle.std.proofs.Common.{◌≡◌, sym, subst, All}
+use Rattle.std.proofs.Common.{sym, subst, All}
 use Rattle.std.proofs.Crossing.{crosses}
 use Rattle.std.proofs.lemmas.List.Elements.{All-weaker}
 use Rattle.mate_shards.proofs.Crosses.{passes-send, shards-sync}

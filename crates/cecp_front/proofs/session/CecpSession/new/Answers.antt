@@ -1,7 +1,6 @@
 use Rattle.std.proofs.Common.{◌∙◌, Some, Ok, ap, sym}
 use Rattle.std.specs.Prelude.{codes}
 use Rattle.game_play.specs.Played.{Played}
-use Rattle.rules_model.specs.declared.rules.Rules.{Rules}
 use Rattle.variant_rules.specs.Entries.{found}
 use Rattle.session_model.specs.CecpState.{state_by}
 use Rattle.cecp_front.proofs.SessionLaws.{begins, found_chess, has_chess, started_again}
