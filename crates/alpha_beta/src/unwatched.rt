@@ -1,5 +1,5 @@
 //! A search that nothing disturbs.
-ghost use Rattle.std.specs.Prelude.{◌<◌, ◌≤◌, length, IfOk};
+ghost use Rattle.std.specs.Prelude.{◌≡◌, ◌<◌, ◌≤◌, length, IfOk};
 ghost use Rattle.game_play.specs.Played.{story};
 ghost use Rattle.alpha_beta.specs.Bests.{IsBest};
 ghost use Rattle.alpha_beta.specs.Roots.{AreLegal};

@@ -78,7 +78,7 @@ pub fn refuted_by_all(frame: &Frame, _tables: &Tables, p: &Position, known: &[Fa
 }
 
 /// The refutation of a position where the attacker is to move, for a caller who knows that he wins after no legal move
-/// within so many more.
+/// within `moves` more.
 pub fn refuted_by_all_within(frame: &Frame, p: &Position, moves: u16) -> Fact
     requires attack { In.IsAttackIn frame.now p.now }
     requires refuted { (m : Move) → Member m (In.legal_in frame.now p.now) →
@@ -109,7 +109,7 @@ pub fn refuted_by_move(
 }
 
 /// The refutation of a position where the other side is to move, for a caller who knows that the attacker does not win
-/// after this legal move within so many of his own.
+/// after this legal move within `moves` of his own.
 pub fn refuted_by_move_within(frame: &Frame, p: &Position, m: &Move, moves: u16) -> Fact
     requires defence { In.IsDefenceIn frame.now p.now }
     requires legal { Member m.now (In.legal_in frame.now p.now) }

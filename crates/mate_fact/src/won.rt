@@ -75,7 +75,7 @@ pub fn by_move(frame: &Frame, _tables: &Tables, p: &Position, m: &Move, known: &
 }
 
 /// The win of a position where the attacker is to move, for a caller who knows that he wins after this legal move
-/// within so many more.
+/// within `moves` more.
 pub fn by_move_within(frame: &Frame, p: &Position, m: &Move, moves: u16) -> Fact
     requires attack { In.IsAttackIn frame.now p.now }
     requires legal { Member m.now (In.legal_in frame.now p.now) }
@@ -107,7 +107,7 @@ pub fn by_all(frame: &Frame, _tables: &Tables, p: &Position, known: &[Fact]) -> 
 }
 
 /// The win of a position where the other side is to move, for a caller who knows that the attacker wins after each
-/// legal move within so many of his own.
+/// legal move within `moves` of his own.
 pub fn by_all_within(frame: &Frame, p: &Position, moves: u16) -> Fact
     requires defence { In.IsDefenceIn frame.now p.now }
     requires won { (m : Move) → Member m (In.legal_in frame.now p.now) →

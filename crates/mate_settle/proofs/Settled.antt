@@ -1,11 +1,11 @@
 -- How facts follow from those of the moves.
-use Rattle.std.proofs.Common.{◌≡◌, ◌⊎◌, inl, inr, ℕ, zero, suc, ◌+◌, ◌<◌, ◌≤◌, List, [], ◌∷◌, ◌++◌, take, Bool, true, false, not, if◌then◌else◌, nat_le, Option, Some, None, is_some, slice_get, refl, ap, sym, ◌∙◌, subst, arith, min, max}
+use Rattle.std.proofs.Common.{◌≡◌, ◌⊎◌, inl, inr, ℕ, zero, suc, ◌+◌, ◌<◌, ◌≤◌, List, [], ◌∷◌, take, Bool, true, false, not, if◌then◌else◌, nat_le, Option, Some, None, is_some, slice_get, refl, ap, sym, ◌∙◌, subst, arith, min, max}
 use Rattle.std.proofs.lemmas.Bool.{and_parts, leb-true}
 use Rattle.std.proofs.lemmas.Bool.Decides.{nat_tests}
 use Rattle.std.specs.List.{find, list_all, sum_by}
 use Rattle.std.specs.Option.{IfSome}
 use mathlib.Core.Bool.{beq}
-use Rattle.foundation.specs.Member.{Member, Appends, Lists}
+use Rattle.foundation.specs.Member.{Member, Lists}
 use Rattle.foundation.specs.Tests.{is_nil}
 use Rattle.rules_model.specs.declared.board.Position.{Position}
 use Rattle.rules_model.specs.declared.moves.Move.{Move}
@@ -379,10 +379,6 @@ module _ {f kept : Frame} {s t : Stance} {ms : List Move} {a : Bool} {left n i :
 
   pub turn-told : (k : Told) → IsTold kept t.position left k → IsTold f (next f.rules s.position x) left k
   turn-told k is = subst (λ (g : Frame). IsTold g (next f.rules s.position x) left k) u.kept_is (subst (λ (q : Position). IsTold kept q left k) u.position_is is)
-
--- what is appended to no list is the whole list
-pub appended-all : {X : Type 0} (P : X → Type 0) (old new : List X) → old ≡ [] → Appends P old new → Lists P new
-appended-all P old new e a = subst (Lists P) (sym (a.is ∙ ap (λ l. l ++ a.added) e)) a.each
 
 -- ---- what the moves come to
 

@@ -32,7 +32,7 @@ abbrev pub IsFar : Bool → ℕ → ℕ → Type 0
 IsFar true left far = left ≤ far
 IsFar false left far = far ≤ left
 
--- this legal move decides: the position goes on, and after it the attacker wins within so many moves where he is to
+-- this legal move decides: the position goes on, and after it the attacker wins within `moves` where he is to
 -- move, and else does not
 pub record Decides (f : Frame) (p : Position) (attacking : Bool) (moves : ℕ) (m : Move) : Type 0 where
   pub ongoing : end_in f p ≡ None

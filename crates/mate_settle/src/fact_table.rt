@@ -11,10 +11,10 @@ use rules_model::{Kind, Memory, Move, Square, repeat_of};
 use std::alloc::Global;
 use std::marker::Model;
 
-/// So many numbers of the attacker's moves have a killer of their own.
+/// How many numbers of moves left have a killer of their own.
 const KILLERS: usize = 16;
 
-/// So many of the replies that refuted the attacker's last move are kept.
+/// How many of the last replies that refuted the attacker's last move are kept.
 pub(crate) const REFUTERS: usize = 4;
 
 /// The squares, the kinds on them, and the numbers of the attacker's moves that have counters of their own.
@@ -39,7 +39,7 @@ pub struct FactTable<'f> {
     /// For each remainder of a key, the number of the fact that is kept for it, from 1 on; 0 where there is none.
     numbers: Vec<u32>,
     kept: Vec<KeyedFact>,
-    /// For each remainder of the attacker's moves, his move that won last with so many left.
+    /// For each remainder of the attacker's moves, his move that won last with that many left.
     killers: [Option<Move>; KILLERS],
     /// The replies that refuted the attacker's last move, the newest first.
     refuters: [Option<Move>; REFUTERS],
@@ -109,19 +109,31 @@ fn bring_to_front(replies: &mut [Option<Move>; REFUTERS], reply: Move) {
     }
 }
 
+/// The number of no fact, for each place.
+fn no_numbers(alloc: Global, room: usize) -> Result<Vec<u32>, Memory> {
+    let mut numbers = Vec::with_capacity(alloc, room)?;
+    for _i in 0..room {
+        numbers.push(0)?;
+    }
+    Ok(numbers)
+}
+
+/// Counters of replies that have refuted nothing yet.
+fn no_counters(alloc: Global, many: usize) -> Result<Vec<u8>, Memory> {
+    let mut counters = Vec::new(alloc);
+    for _i in 0..many {
+        counters.push(0)?;
+    }
+    Ok(counters)
+}
+
 impl<'f> FactTable<'f> {
     /// A table without facts and with room for this many, which may be none; or `Memory`.
     pub fn new(alloc: Global, frame: &'f Frame, room: usize) -> Result<FactTable<'f>, Memory>
         ensures { IfOk result (λ t. t ≡ frame.now) }
     {
-        let mut numbers = Vec::with_capacity(alloc, room)?;
-        for _i in 0..room {
-            numbers.push(0)?;
-        }
-        let mut counters = Vec::new(alloc);
-        for _i in 0..room.min(COUNTERS) {
-            counters.push(0)?;
-        }
+        let numbers = no_numbers(alloc, room)?;
+        let counters = no_counters(alloc, room.min(COUNTERS))?;
         let kept = Vec::new(alloc);
         Ok(FactTable {
             frame,
@@ -193,7 +205,8 @@ impl<'f> FactTable<'f> {
         }
     }
 
-    /// The same fact, copied.
+    /// A kept fact, copied, that says whether the attacker wins the position within this many moves, if one is found at
+    /// once.
     pub fn look(&self, board: &Board, moves: u16) -> Option<Fact>
         ensures serves { IfSome result (Answers board.now moves) }
         ensures truth { IfSome result (IsTrueIn self.now) }
@@ -204,7 +217,7 @@ impl<'f> FactTable<'f> {
         }
     }
 
-    /// What it tells, without a copy of it.
+    /// What that fact tells: whether he wins, and within how many moves.
     pub fn told(&self, board: &Board, moves: u16) -> Option<Told>
         ensures { IfSome result (IsTold self.now board.now.position moves) }
     {

@@ -12,7 +12,6 @@ ghost use Rattle.rules_model.specs.Sides.{same_side};
 
 use crate::fact_table::FactTable;
 use crate::ordering::reached;
-use crate::settling::legal_list;
 use check_moves::{Checks, KnownFlights, checks_of, may_check};
 use mate_core::Frame;
 use mate_fact::won_by;
@@ -200,7 +199,7 @@ fn king_reply(board: &Board) -> Option<Move> {
 
 /// The first of the legal moves, or `Memory`.
 fn first_reply(alloc: Global, board: &Board) -> Result<Option<Move>, Memory> {
-    let replies = legal_list(alloc, board)?;
+    let replies = board.list_legal(alloc)?;
     match replies.items.first() {
         Some(reply) => Ok(Some(*reply)),
         None => Ok(None),

@@ -16,7 +16,6 @@ ghost use Rattle.rules_model.specs.Sides.{same_side};
 
 use crate::fact_table::{FactTable, REFUTERS};
 use crate::last_moves::{only_movers_win, winning_checks, winning_move};
-use crate::settling::legal_list;
 use crate::told::{Told, told_of_end};
 use check_moves::{Checks, KnownFlights, push_checks};
 use mate_core::Frame;
@@ -48,7 +47,7 @@ fn last_moves(
             push_checks(board, checks, flights, &mut moves)?;
             Ok(moves)
         }
-        None => legal_list(alloc, board),
+        None => board.list_legal(alloc),
     }
 }
 
@@ -153,8 +152,8 @@ fn last_refuter(alloc: Global, board: &Board, facts: &mut FactTable) -> Result<O
     Ok(None)
 }
 
-/// Whether the attacker does not win by his last move, since a reply that refuted such a position lately refutes this
-/// one: no list of moves is made. Or `Memory`.
+/// What is told where a reply that refuted such a position lately refutes this one, else None; or `Memory`. No list of
+/// moves is made.
 #[inline(never)]
 fn refuted_again(
     alloc: Global,

@@ -1,4 +1,4 @@
-//! Whether a position is won within so many moves of the attacker, exactly.
+//! Whether the attacker wins a position within n of his moves, exactly.
 ghost use Rattle.std.specs.Prelude.{◌≡◌, ◌≤◌, ◌<◌, true, not, None, Some, IfOk, OnOk, IfSome, IsErrOf};
 ghost use Rattle.foundation.specs.Member.{Member, Lists};
 ghost use Rattle.forced_wins.specs.Facts as Facts;
@@ -25,23 +25,9 @@ use mate_fact::{
     refuted_where, won_where,
 };
 use playing::Board;
-use rules_model::{Memory, Move, MoveList, Position};
+use rules_model::{Memory, Move, Position};
 use std::alloc::Global;
 use watching::{Halt, Watch};
-
-/// Most positions have no more legal moves.
-const LEGAL: usize = 64;
-
-// The legal moves, each once.
-pub(crate) fn legal_list(alloc: Global, board: &Board) -> Result<MoveList, Memory>
-    ensures { IfOk result (Lists (λ m. Member m (legal_in board.now))) }
-{
-    let mut moves = MoveList {
-        items: Vec::with_capacity(alloc, LEGAL)?,
-    };
-    board.push_legal(&mut moves)?;
-    Ok(moves)
-}
 
 /// The legal moves, each once, in the order in which they are tried where the attacker has n moves left: those first
 /// that are likely to decide. For his last move they are not ordered.
@@ -58,7 +44,7 @@ pub fn moves_to_try(
     ensures { IfOk result (λ ms. Lists (λ m. Member m (legal_in board.now)) ms.items) }
 {
     let attacking = board.position().side.is(facts.frame().attacker);
-    let moves = legal_list(alloc, board)?;
+    let moves = board.list_legal(alloc)?;
     if attacking && n < 2 {
         return Ok(moves.items);
     }
@@ -174,8 +160,8 @@ fn moves_by_one(attacking: bool, moves: u16) -> u16
     if attacking { moves + 1 } else { moves }
 }
 
-/// What one move decides, where the position after it is as the side to move wants it. The fact is kept where it is
-/// dear, and so is the move.
+/// What is told of a position by one move that decides it: `known`, of the position after it, is as the side to move
+/// wants. The move is kept for ordering; the fact is kept too, unless it is found again as fast.
 #[inline]
 pub fn decide(
     facts: &mut FactTable,
@@ -237,7 +223,8 @@ fn keep_each(facts: &mut FactTable, board: &Board, attacking: bool, n: u16, far:
     told
 }
 
-/// Keeps the fact that needs no other, if there is one, and tells it.
+/// What is told where the position has ended, or the attacker is to move and has no move left, and keeps that fact; else
+/// None. `any` says whether some move is legal.
 #[inline(never)]
 pub fn keep_now(facts: &mut FactTable, board: &Board, n: u16, any: bool) -> Option<Told>
     requires rules { board.now.rules ≡ facts.old.rules }
@@ -257,7 +244,8 @@ pub fn keep_now(facts: &mut FactTable, board: &Board, n: u16, any: bool) -> Opti
     }
 }
 
-/// Whether the attacker wins from the position within n of his moves, the position being looked at without its history.
+/// Whether the attacker wins from the position within n of his moves, n up to 1,000, the position being looked at without
+/// its history.
 ///
 /// # Errors
 ///

@@ -4,7 +4,7 @@ ghost use Rattle.mate_settle.specs.Tellings as Tellings;
 
 use mate_core::Fact;
 
-/// Whether the attacker wins from a position: he does within so many of his moves, or he does not within as many.
+/// Whether the attacker wins from a position: he does within `moves` of his moves, or he does not within as many.
 #[derive(Clone, Copy, PartialEq, Eq)]
 pub struct Told {
     pub wins: bool,

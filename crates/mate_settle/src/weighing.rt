@@ -11,7 +11,6 @@ use crate::ordering::{
     CHECKED, Order, check_rank, early_reply_rank_by, freedom_of, freedom_taken, order_for,
     quiet_rank, taken,
 };
-use crate::settling::legal_list;
 use check_moves::gives_check;
 use playing::Board;
 use rules_model::{Memory, Move, Side};
@@ -146,7 +145,7 @@ pub fn weighed_moves(
 ) -> Result<Vec<WeighedMove>, Memory>
     ensures { IfOk result (λ ws. Lists (λ m. Member m (legal_in board.now)) (map weighed_of ws.items)) }
 {
-    let moves = legal_list(alloc, board)?;
+    let moves = board.list_legal(alloc)?;
     let order = order_for(board, n, facts);
     let mut weighed = weigh_all(alloc, board, moves.items.as_slice(), &order)?;
     weighed.sort_by_key(|one| one.rank)?;

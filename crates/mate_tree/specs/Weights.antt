@@ -46,7 +46,7 @@ child_lines f n p v = lines_at f (left_at f n p) (next f.rules p (chosen_at v)) 
 abbrev pub forest : Frame → ℕ → Position → List Node → ℕ
 forest f n p vs = sum_by (child_lines f n p) vs
 
--- so many nodes are left after some were entered
+-- how many nodes are left after some were entered
 abbrev pub Leaves : (ℕ → Type 0) → ℕ → ℕ → Type 0
 Leaves gone before after = (after ≤ before) × gone (before - after)
 

@@ -46,10 +46,11 @@ fn by_step(facts: &mut FactTable, board: &Board, attacking: bool, n: u16, step: 
     decide(facts, board, attacking, n, step.chosen, step.told)
 }
 
-/// Grows a tree by one leaf. The attacker has n moves left in the position, and the children are nodes for moves of it,
-/// as `leaves_of` makes them. The child by which the way goes on to the leaf that proves most is looked at: where its
+/// Grows a tree by one leaf. The attacker has n moves left in the position, n up to 1,000, and the children are nodes
+/// for moves of it, as `leaves_of` makes them. The child on the path to the most-proving leaf is looked at: where its
 /// position is settled it is taken out, and its move is answered with what is told of it. A child whose move is not
-/// legal is taken out without an answer. The nodes that are made are taken from the room, down to 0.
+/// legal is taken out without an answer. The nodes that are made are taken from the room, down to 0. No clause says
+/// which leaf grows, or what is taken from the room.
 ///
 /// # Errors
 ///

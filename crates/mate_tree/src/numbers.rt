@@ -7,7 +7,7 @@ use crate::node::Node;
 /// No number is greater.
 const MOST: u32 = 1 << 30;
 
-/// The place of the child by which the way goes on to the leaf that proves most, and the numbers of the node.
+/// The place of the child on the path to the most-proving leaf, and the numbers of the node.
 #[derive(Clone, Copy)]
 pub(crate) struct BestChild {
     pub place: usize,

@@ -50,8 +50,8 @@ fn is_last(attacking: bool, n: u16) -> bool
     n < 2 || (attacking && n == 2)
 }
 
-/// Looks at a node for the first time. What is told of it, where that settles it: by the last moves, by what is known of
-/// its position, or by its end. Else it has a leaf for each legal move, and they are taken from the room.
+/// Looks at a node for the first time. What is told of it, where that settles it: by the last moves, by what is known
+/// of its position, or by its end. Else it has a leaf for each legal move, and they are taken from the room.
 ///
 /// # Errors
 ///

@@ -1,6 +1,6 @@
 //! Lists of moves that are still to be searched.
-ghost use Rattle.std.specs.Prelude.{◌<◌, ◌≤◌, length, vec_len};
-ghost use Rattle.negamax.specs.Trials.{Takes};
+ghost use Rattle.std.specs.Prelude.{◌≡◌, ◌<◌, ◌≤◌, length, vec_len};
+ghost use Rattle.negamax.specs.Trials.{Pushes, Takes};
 
 use rules_model::Move;
 

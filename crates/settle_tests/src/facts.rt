@@ -1,9 +1,17 @@
 //! Tests of `mate_fact`.
+ghost use Rattle.std.specs.Prelude.{◌≡◌};
+ghost use Rattle.foundation.specs.Member.{Member};
+ghost use Rattle.legality.specs.Stance.{legal_in};
+ghost use Rattle.mate_fact.specs.InFrame.{ServesMoveIn};
+
 use crate::expect::expect_eq;
 use crate::helpers::frame_of;
 use attack_tables::Tables;
-use mate_core::{Fact, serves};
-use mate_fact::{by_move, end_of, refuted_by_move, refuted_now, won_by, won_now};
+use legality::legal_moves;
+use mate_core::{Fact, Frame, serves};
+use mate_fact::{
+    by_all, by_move, end_of, refuted_by_all, refuted_by_move, refuted_now, won_by, won_now,
+};
 use playing::Board;
 use rules_model::{Cause, Move, Outcome, Position, Promo, Side, Square, repeat_of, sound};
 use sample_rules::position;
@@ -67,6 +75,32 @@ fn ends_are_won_by_a_side(rt: HostRuntime) {
     expect_won(&rt, Outcome::Drawn(Cause::Stalemate), Some(false));
 }
 
+/// A fact on the position after the legal move, with this number of moves.
+fn fact_after(
+    rt: &impl Abort,
+    frame: &Frame,
+    board: &Board,
+    m: &Move,
+    moves: u16,
+    wins: bool,
+) -> Fact
+    requires rules { board.now.rules ≡ frame.now.rules }
+    requires legal { Member m.now (legal_in board.now) }
+    ensures { ServesMoveIn frame.now board.now.position m.now wins result }
+{
+    let next = board.after(m);
+    let known = Fact {
+        repeat: repeat_of(next.position()),
+        attacker: frame.attacker,
+        moves,
+        counter: next.position().counter,
+        best: None,
+        wins,
+    };
+    assert!(rt; serves(&known, &known.repeat, known.counter, moves));
+    known
+}
+
 /// The fact on the position that follows from one on the position after the move, which has this number of moves: a win
 /// where White is to move, who attacks, and else a refutation.
 fn by_one_move(rt: &impl Abort, alloc: Global, p: &Position, m: &Move, moves: u16) -> Fact {
@@ -80,16 +114,7 @@ fn by_one_move(rt: &impl Abort, alloc: Global, p: &Position, m: &Move, moves: u1
         panic!(rt; "it is ended");
     };
     let attacking = p.side.is(frame.attacker);
-    let next = board.after(m);
-    let known = Fact {
-        repeat: repeat_of(next.position()),
-        attacker: frame.attacker,
-        moves,
-        counter: next.position().counter,
-        best: None,
-        wins: attacking,
-    };
-    assert!(rt; serves(&known, &known.repeat, known.counter, moves));
+    let known = fact_after(rt, &frame, &board, m, moves, attacking);
     if attacking {
         by_move(&frame, &tables, p, m, &known)
     } else {
@@ -111,20 +136,71 @@ fn expect_by_one(
     expect_eq(rt, fact.best, Some(*m));
 }
 
-// A win by one move is one move longer; a refutation by one reply is as long.
-#[test]
-fn facts_follow_by_one_move(rt: HostRuntime) {
-    let alloc = rt.alloc();
-    let go = |from, to| Move::Go {
+fn go(from: Square, to: Square) -> Move {
+    Move::Go {
         from,
         to,
         promo: Promo::Stays,
         gate: None,
-    };
+    }
+}
+
+// A win by one move is one move longer; a refutation by one reply is as long.
+#[test]
+fn facts_follow_by_one_move(rt: HostRuntime) {
+    let alloc = rt.alloc();
     let rook = go(Square::at(0, 0), Square::at(1, 0));
     let white = placed("Kg6 Ra1 kh8", Side::White, 7);
     expect_by_one(&rt, alloc, &white, &rook, 2, (3, 7, true));
     let king = go(Square::at(7, 7), Square::at(6, 7));
     let black = placed("Kg6 Ra1 kh8", Side::Black, 7);
     expect_by_one(&rt, alloc, &black, &king, 2, (2, 7, false));
+}
+
+/// The fact on the position that follows from one on the position after its only legal move, which has this number of
+/// moves: a refutation where White is to move, who attacks, and else a win.
+fn by_all_moves(rt: &impl Abort, alloc: Global, p: &Position, m: &Move, moves: u16) -> Fact {
+    let frame = frame_of(Vec::new(alloc));
+    let tables = Tables::new(alloc, &frame.rules).expect(rt, "no fault");
+    assert!(rt; sound(&frame.rules, p));
+    let board = Board::new(&tables, p);
+    let None = end_of(&frame, p, board.own_end()) else {
+        panic!(rt; "it is ended");
+    };
+    let legal = legal_moves(alloc, &frame.rules, &tables, p).expect(rt, "no fault");
+    assert!(rt; legal.items.as_slice() == [*m].as_slice());
+    let attacking = p.side.is(frame.attacker);
+    let known = [fact_after(rt, &frame, &board, m, moves, !attacking)];
+    if attacking {
+        refuted_by_all(&frame, &tables, p, &known)
+    } else {
+        by_all(&frame, &tables, p, &known)
+    }
+}
+
+/// Asserts what a fact by all moves says: for how many moves, at which counter, and whether it is a win.
+fn expect_by_all(
+    rt: &impl Abort,
+    alloc: Global,
+    p: &Position,
+    m: &Move,
+    moves: u16,
+    wanted: (u16, u16, bool),
+) {
+    let fact = by_all_moves(rt, alloc, p, m, moves);
+    expect_eq(rt, (fact.moves, fact.counter, fact.wins), wanted);
+    expect_eq(rt, fact.best, None);
+}
+
+// A refutation by all moves is one move longer, but for 65,535; a win after all replies is as long.
+#[test]
+fn facts_follow_by_all_moves(rt: HostRuntime) {
+    let alloc = rt.alloc();
+    let corner = go(Square::at(0, 0), Square::at(1, 0));
+    let white = placed("Ka1 rc2 kh8", Side::White, 7);
+    expect_by_all(&rt, alloc, &white, &corner, 2, (3, 7, false));
+    expect_by_all(&rt, alloc, &white, &corner, 65535, (65535, 7, false));
+    let flight = go(Square::at(7, 7), Square::at(6, 7));
+    let black = placed("Kg6 Ra1 kh8", Side::Black, 7);
+    expect_by_all(&rt, alloc, &black, &flight, 2, (2, 7, true));
 }

@@ -14,5 +14,5 @@ returns-in_ok-push_checks-in-Some-clause-tried c =
 pub returns-in-None-clause-tried : goal.returns-in-None-clause-tried
 returns-in-None-clause-tried c =
     let s = c.args.board.now in
-    let Tried : Option Checks → Type 0 = λ o. IfOk c.legal_list.result (λ ms. AreTried s o ms) in
-    subst Tried (sym c.in-None.is) c.legal_list.ensures
+    let Tried : Option Checks → Type 0 = λ o. IfOk c.list_legal.result (λ ms. AreTried s o ms) in
+    subst Tried (sym c.in-None.is) c.list_legal.ensures

@@ -4,7 +4,7 @@ use Rattle.game_line.specs.Lined.{story_of_line}
 use Rattle.evaluation.specs.Values.{play}
 use Rattle.evaluation.proofs.GamesByRules.{play_laws}
 use Rattle.evaluation.proofs.ScoreLaws.{quiet-ended}
-use Rattle.negamax.proofs.NodeLaws.{quiet_within, quiet_zero}
+use Rattle.negamax.proofs.NodeLaws.{is_none, quiet_within, quiet_zero}
 use Rattle.negamax.proofs.ends.resting.Goals as goal
 
 pub returns-in-Some-clause-is : goal.returns-in-Some-clause-is
