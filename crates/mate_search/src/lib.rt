@@ -21,7 +21,6 @@ mod whole;
 pub use answer::Mate;
 pub use counting::is_counted;
 pub use frame::{copy_of_frame, frame_of};
-pub use io_ports::{Limits, SearchFault, Stopped};
 pub use mate_showing::Settled;
 pub use strategy::Counters;
 pub use whole::{settle, solve, solve_watched};
