@@ -25,7 +25,7 @@ use Rattle.mate_search.specs.declared.race.RootTask.{RootTask}
 
 -- ---- passes
 
--- as many parts as before, where both are so many at some number
+-- n parts as before, where both have m for some m
 parts-kept : (before after : List ShardPass) (m n : ℕ) → length after ≡ length before → HaveParts m before → HaveParts m after → HaveParts n before → HaveParts n after
 parts-kept before after m n count old new same = all-from (λ p. p.parts ≡ n) after (λ k y at.
     let w = slice_get_within after k y at in

@@ -73,7 +73,7 @@ pub(crate) fn conclude<R: Wait, W: Watch>(
     show(alloc, game, &board, n, facts, watch)
 }
 
-/// As `conclude`, after a tree is grown for so many nodes: the move by which it wins is tried first.
+/// As `conclude`, after a tree is grown for `nodes` nodes: the move by which it wins is tried first.
 fn conclude_grown<R: Wait, W: Watch>(
     rt: &R,
     alloc: Global,

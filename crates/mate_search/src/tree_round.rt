@@ -17,10 +17,10 @@ use std::alloc::Global;
 use std::sync::Wait;
 use watching::{Halt, Watch};
 
-/// A tree is grown for so many nodes, or for as many as the last solve entered, if these are more.
+/// A tree is grown for `LEAST_NODES` nodes, or for as many as the last solve entered, if these are more.
 const LEAST_NODES: u64 = 1000;
 
-/// A tree that has made so many nodes grows no more. Its last step may have made some beyond them.
+/// A tree that has made `ROOM` nodes grows no more. Its last step may have made some beyond them.
 const ROOM: u64 = 1 << 19;
 
 /// Where fewer moves are asked for there is nothing above the last moves.

@@ -6,7 +6,7 @@ use Rattle.pn_search.specs.declared.node.State.TheVariants.{Open, Won, Lost, Inn
 use Rattle.pn_search.specs.declared.numbers.Pair.{Pair}
 use Rattle.pn_search.specs.Numbers.{of_children, pair_at, numbers_of}
 
--- the children are among so many nodes
+-- the children are among the first n nodes
 abbrev pub AreWithin : State → ℕ → Type 0
 AreWithin Open n = Unit {0}
 AreWithin Won n = Unit {0}

@@ -71,7 +71,7 @@ abbrev pub go_on : (Spot → Spot) → Spot → Option Spot → Spot
 go_on f s None = s
 go_on f s (Some t) = f t
 
--- down from the spot by the best children, at most so many
+-- down from the spot by the best children, at most d times
 unfoldable pub descend : Rules → List Node → List Pair → ℕ → Spot → Spot
 descend rules nodes ps zero s = s
 descend rules nodes ps (suc d) s =
@@ -155,7 +155,7 @@ abbrev pub position_step : Rules → Position → (ℕ → Position) → Option 
 position_step rules root at None = root
 position_step rules root at (Some v) = position_after rules (at v.parent) v.chosen
 
--- that of the node with the number i, at most so many moves from the root
+-- that of the node with the number i, at most d moves from the root
 unfoldable pub position_by : Rules → Position → List Node → ℕ → ℕ → Position
 position_by rules root nodes zero i = root
 position_by rules root nodes (suc d) i =

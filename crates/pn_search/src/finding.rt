@@ -125,11 +125,13 @@ fn find_lent<R: Wait>(
 }
 
 /// Whether the side wins the ongoing game by force within n of its moves, n from 1 to 100, with the tree that says so.
-/// What is known of the settled nodes is published.
+/// The move-count rule cannot end the game within n moves, and `attacker` is that of the shards' frame, which is the
+/// game's. What is known of the settled nodes is published; no clause says what. The passes are handed back after an
+/// error too.
 ///
 /// # Errors
 ///
-/// `Memory` where there is none, or where the tree has as many nodes as have numbers of 32 bits.
+/// `Memory` where there is none, or where the tree would have 2^32 nodes or more.
 pub fn find<R: Wait>(
     rt: &R,
     alloc: Global,

@@ -52,7 +52,7 @@ fn least_in(alloc: Global, game: &Game, n: u16, frame: &Frame) -> Result<Option<
 ///
 /// # Errors
 ///
-/// `Memory` where there is none, or where a tree has as many nodes as have numbers of 32 bits.
+/// `Memory` where there is none, or where a tree would have 2^32 nodes or more.
 pub fn least_mate(
     alloc: Global,
     game: &Game,

@@ -51,6 +51,7 @@ impl Model for Tree {
 
 impl Tree {
     /// The tree of one open node for a win from the root within n moves of the attacker in the frame, which is copied.
+    /// The root is sound and ongoing (`root_end`), and n is from 1 to 100.
     ///
     /// # Errors
     ///
