@@ -11,7 +11,7 @@ use Rattle.mate_fact.specs.InFrame.{left_after}
 use Rattle.mate_shards.specs.Grown.{HaveParts}
 use Rattle.mate_shards.specs.Views.{ArePassesOf, ShardsView}
 use Rattle.mate_showing.specs.Answers.{IsFrameOf}
-use Rattle.mate_search.specs.declared.job.WorkerPasses.{WorkerPasses}
+use Rattle.mate_search.specs.declared.job.Worker.{Worker}
 use Rattle.mate_search.specs.declared.race.Race.{Race}
 use Rattle.mate_search.specs.declared.race.RootTask.{RootTask}
 
@@ -52,6 +52,6 @@ abbrev pub raced_lines : {G : Type 0} → Race G → ℕ
 raced_lines race = (3 * race.n + 5) * root_lines race
 
 -- a worker beside the first has passes of one part for the shards
-pub record IsLent (s : ShardsView) (job : WorkerPasses) : Type 0 where
-  pub passes : ArePassesOf s job.passes
-  pub part : HaveParts 1 job.passes
+pub record IsLent (s : ShardsView) (worker : Worker) : Type 0 where
+  pub passes : ArePassesOf s worker.passes
+  pub part : HaveParts 1 worker.passes

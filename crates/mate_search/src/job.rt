@@ -21,7 +21,7 @@ use watching::{Halt, Helper, Round, Watch};
 /// The state of a worker: its passes for the shards, its number, and how many root moves it has taken. The worker in
 /// the caller has the number 0.
 #[derive(Drop)]
-pub(crate) struct WorkerPasses {
+pub(crate) struct Worker {
     pub passes: Passes,
     pub number: u32,
     pub step: u64,
@@ -70,15 +70,15 @@ fn take_roots<R: Wait, W: Watch, G: Gate>(
     rt: &R,
     race: &Race<G>,
     round: Round,
-    job: &mut WorkerPasses,
+    worker: &mut Worker,
     facts: &mut FactTable,
     watch: &mut W,
 ) -> Result<(), Halt>
     requires ready { IsReady race.now }
     requires facts { facts.old ≡ race.now.shards.now.frame }
-    requires passes { ArePassesOf race.now.shards.now job.old.passes }
+    requires passes { ArePassesOf race.now.shards.now worker.old.passes }
     ensures facts { facts.new ≡ facts.old }
-    ensures handed { AreHandedBack race.now.shards.now job.old.passes job.new.passes }
+    ensures handed { AreHandedBack race.now.shards.now worker.old.passes worker.new.passes }
     ensures gone { OnOk result (W.gone watch.old watch.new (root_lines race.now)) }
     ensures ended { (why : Halt) → IsErrOf result why → W.ended watch.old watch.new (root_lines race.now) why }
 {
@@ -86,12 +86,12 @@ fn take_roots<R: Wait, W: Watch, G: Gate>(
     let task = race.task();
     for i in 0..race.roots.len() {
         if race.shared.takes(i, round) {
-            race.gate.pass(job.number, job.step);
-            job.step = job.step.saturating_add(1);
+            race.gate.pass(worker.number, worker.step);
+            worker.step = worker.step.saturating_add(1);
             let chosen = race.roots[i];
             let next = board.after(&chosen);
-            let outcome = settle_next(rt, race, &next, task, &mut job.passes, facts, watch)?;
-            race.shared.tell(i, outcome, job.number);
+            let finding = settle_next(rt, race, &next, task, &mut worker.passes, facts, watch)?;
+            race.shared.tell(i, finding, worker.number);
         }
     }
     Ok(())
@@ -101,20 +101,20 @@ fn take_roots<R: Wait, W: Watch, G: Gate>(
 fn take_rounds<R: Wait, W: Watch, G: Gate>(
     rt: &R,
     race: &Race<G>,
-    job: &mut WorkerPasses,
+    worker: &mut Worker,
     facts: &mut FactTable,
     watch: &mut W,
 ) -> Result<(), Halt>
     requires ready { IsReady race.now }
     requires facts { facts.old ≡ race.now.shards.now.frame }
-    requires passes { ArePassesOf race.now.shards.now job.old.passes }
+    requires passes { ArePassesOf race.now.shards.now worker.old.passes }
     ensures facts { facts.new ≡ facts.old }
-    ensures handed { AreHandedBack race.now.shards.now job.old.passes job.new.passes }
+    ensures handed { AreHandedBack race.now.shards.now worker.old.passes worker.new.passes }
     ensures gone { OnOk result (W.gone watch.old watch.new (2 * root_lines race.now)) }
     ensures ended { (why : Halt) → IsErrOf result why → W.ended watch.old watch.new (2 * root_lines race.now) why }
 {
-    take_roots(rt, race, Round::Free, job, facts, watch)?;
-    take_roots(rt, race, Round::Unfinished, job, facts, watch)
+    take_roots(rt, race, Round::Free, worker, facts, watch)?;
+    take_roots(rt, race, Round::Unfinished, worker, facts, watch)
 }
 
 /// Grows a tree, and then takes the root moves that are free, and those that no worker has settled: so it waits for
@@ -122,15 +122,15 @@ fn take_rounds<R: Wait, W: Watch, G: Gate>(
 pub(crate) fn take_all<R: Wait, W: Watch, G: Gate>(
     rt: &R,
     race: &Race<G>,
-    job: &mut WorkerPasses,
+    worker: &mut Worker,
     facts: &mut FactTable,
     watch: &mut W,
 ) -> Result<(), Halt>
     requires ready { IsReady race.now }
     requires facts { facts.old ≡ race.now.shards.now.frame }
-    requires passes { ArePassesOf race.now.shards.now job.old.passes }
+    requires passes { ArePassesOf race.now.shards.now worker.old.passes }
     ensures facts { facts.new ≡ facts.old }
-    ensures handed { AreHandedBack race.now.shards.now job.old.passes job.new.passes }
+    ensures handed { AreHandedBack race.now.shards.now worker.old.passes worker.new.passes }
     ensures gone { OnOk result (W.gone watch.old watch.new (race_lines race.now)) }
     ensures ended { (why : Halt) → IsErrOf result why → W.ended watch.old watch.new (race_lines race.now) why }
 {
@@ -142,7 +142,7 @@ pub(crate) fn take_all<R: Wait, W: Watch, G: Gate>(
         &board,
         race.n,
         race.tree_nodes,
-        &mut job.passes,
+        &mut worker.passes,
         facts,
         watch,
     )?;
@@ -150,33 +150,33 @@ pub(crate) fn take_all<R: Wait, W: Watch, G: Gate>(
         race.favour(&best);
         return Ok(());
     }
-    take_rounds(rt, race, job, facts, watch)
+    take_rounds(rt, race, worker, facts, watch)
 }
 
 /// Takes the root moves that are free, with a table of its own.
 fn take_free<R: Wait, W: Watch, G: Gate>(
     rt: &R,
     race: &Race<G>,
-    job: &mut WorkerPasses,
+    worker: &mut Worker,
     watch: &mut W,
 ) -> Result<(), Halt>
     requires ready { IsReady race.now }
-    requires passes { ArePassesOf race.now.shards.now job.old.passes }
-    ensures handed { AreHandedBack race.now.shards.now job.old.passes job.new.passes }
+    requires passes { ArePassesOf race.now.shards.now worker.old.passes }
+    ensures handed { AreHandedBack race.now.shards.now worker.old.passes worker.new.passes }
     ensures gone { OnOk result (W.gone watch.old watch.new (root_lines race.now)) }
     ensures ended { (why : Halt) → IsErrOf result why → W.ended watch.old watch.new (root_lines race.now) why }
 {
     let mut facts = FactTable::new(race.alloc, race.shards.frame(), room_for(race.n))?;
-    take_roots(rt, race, Round::Free, job, &mut facts, watch)
+    take_roots(rt, race, Round::Free, worker, &mut facts, watch)
 }
 
 /// What a worker beside the first does. Where it reaches its quota, finds no memory or is told to stop, what it found
 /// stays.
-pub(crate) fn help<R: Wait, G: Gate>(rt: &R, race: &Race<G>, job: &mut WorkerPasses)
+pub(crate) fn help<R: Wait, G: Gate>(rt: &R, race: &Race<G>, worker: &mut Worker)
     requires ready { IsReady race.now }
-    requires lent { IsLent race.now.shards.now job.old }
-    ensures lent { IsLent race.now.shards.now job.new }
+    requires lent { IsLent race.now.shards.now worker.old }
+    ensures lent { IsLent race.now.shards.now worker.new }
 {
     let mut watch = Helper::new(&race.shared.over, race.quota);
-    let _ = take_free(rt, race, job, &mut watch);
+    let _ = take_free(rt, race, worker, &mut watch);
 }

@@ -6,7 +6,7 @@ ghost use Rattle.mate_shards.specs.Views.{ArePassesOf};
 ghost use Rattle.mate_search.specs.Handed.{AreHandedBack};
 ghost use Rattle.mate_search.specs.Races.{IsLent, IsReady};
 
-use crate::job::WorkerPasses;
+use crate::job::Worker;
 use crate::race::{Race, RootTask};
 use mate_settle::FactTable;
 use mate_shards::{Passes, Shards};
@@ -16,7 +16,7 @@ use std::alloc::Global;
 use std::sync::Wait;
 
 /// Room for N workers beside the first.
-pub(crate) fn room_for_jobs(alloc: Global, count: u32) -> Result<Vec<WorkerPasses>, Memory>
+pub(crate) fn room_for_jobs(alloc: Global, count: u32) -> Result<Vec<Worker>, Memory>
     ensures none { IfOk result (λ jobs. jobs.items ≡ []) }
     ensures room { IfOk result (λ jobs. count ≤ vec_capacity jobs) }
 {
@@ -27,7 +27,7 @@ pub(crate) fn room_for_jobs(alloc: Global, count: u32) -> Result<Vec<WorkerPasse
 pub(crate) fn share_out(
     shards: &Shards,
     passes: Passes,
-    jobs: &mut Vec<WorkerPasses>,
+    jobs: &mut Vec<Worker>,
     count: u32,
 ) -> Passes
     requires passes { ArePassesOf shards.now passes }
@@ -46,7 +46,7 @@ pub(crate) fn share_out(
             Err(back) => return back,
             Ok((first, second)) => {
                 kept = first;
-                jobs.push_reserved(WorkerPasses {
+                jobs.push_reserved(Worker {
                     passes: second,
                     number: k + 1,
                     step: 0,
@@ -58,7 +58,7 @@ pub(crate) fn share_out(
 }
 
 /// Joins the passes of all workers.
-pub(crate) fn join_all(shards: &Shards, mine: Passes, mut jobs: Vec<WorkerPasses>) -> Passes
+pub(crate) fn join_all(shards: &Shards, mine: Passes, mut jobs: Vec<Worker>) -> Passes
     requires passes { ArePassesOf shards.now mine }
     requires lent { All (IsLent shards.now) jobs.items }
     ensures passes { ArePassesOf shards.now result }
@@ -66,8 +66,8 @@ pub(crate) fn join_all(shards: &Shards, mine: Passes, mut jobs: Vec<WorkerPasses
     ensures grown { HaveGrown mine result }
 {
     let mut all = mine;
-    while let Some(job) = jobs.pop() {
-        all = shards.join(all, job.passes);
+    while let Some(worker) = jobs.pop() {
+        all = shards.join(all, worker.passes);
     }
     all
 }

@@ -9,7 +9,7 @@ ghost use Rattle.watching.specs.declared.halt.Halt.{Halt};
 ghost use Rattle.mate_search.specs.Handed.{AreHandedBack};
 ghost use Rattle.mate_search.specs.Races.{IsLent, IsReady, race_lines};
 
-use crate::job::{WorkerPasses, help, take_all};
+use crate::job::{Worker, help, take_all};
 use crate::race::Race;
 use io_ports::Gate;
 use mate_settle::FactTable;
@@ -22,15 +22,15 @@ use watching::{Halt, Watch, WorkWatch};
 fn lead<R: Wait, W: Watch, G: Gate>(
     rt: &R,
     race: &Race<G>,
-    job: &mut WorkerPasses,
+    worker: &mut Worker,
     facts: &mut FactTable,
     watch: &mut W,
 ) -> Result<(), Halt>
     requires ready { IsReady race.now }
     requires facts { facts.old ≡ race.now.shards.now.frame }
-    requires passes { ArePassesOf race.now.shards.now job.old.passes }
+    requires passes { ArePassesOf race.now.shards.now worker.old.passes }
     ensures facts { facts.new ≡ facts.old }
-    ensures handed { AreHandedBack race.now.shards.now job.old.passes job.new.passes }
+    ensures handed { AreHandedBack race.now.shards.now worker.old.passes worker.new.passes }
     ensures gone { OnOk result (W.gone watch.old watch.new (race_lines race.now)) }
     ensures ended { (why : Halt) → IsErrOf result why → W.ended watch.old watch.new (race_lines race.now) why }
 {
@@ -39,7 +39,7 @@ fn lead<R: Wait, W: Watch, G: Gate>(
         work: &race.shared.over,
         told: false,
     };
-    let end = take_all(rt, race, job, facts, &mut racer);
+    let end = take_all(rt, race, worker, facts, &mut racer);
     race.shared.over.raise();
     if racer.told {
         return Ok(());
@@ -51,8 +51,8 @@ fn lead<R: Wait, W: Watch, G: Gate>(
 pub(crate) fn run_all<R: Threads + Wait + Sync, W: Watch, G: Gate + Sync>(
     rt: &R,
     race: &Race<G>,
-    jobs: &mut [WorkerPasses],
-    mine: &mut WorkerPasses,
+    jobs: &mut [Worker],
+    mine: &mut Worker,
     facts: &mut FactTable,
     watch: &mut W,
 ) -> Result<(), Halt>
@@ -73,10 +73,10 @@ pub(crate) fn run_all<R: Threads + Wait + Sync, W: Watch, G: Gate + Sync>(
         rt,
         jobs,
         threads,
-        &|_, job: &mut WorkerPasses|
-            requires { IsLent race.now.shards.now job.now × IsReady race.now }
-            ensures { IsLent race.entry.now.shards.now job.exit.now }
-        { help(rt, race, job) },
+        &|_, worker: &mut Worker|
+            requires { IsLent race.now.shards.now worker.now × IsReady race.now }
+            ensures { IsLent race.entry.now.shards.now worker.exit.now }
+        { help(rt, race, worker) },
         &mut || lead(rt, race, mine, facts, watch),
     )
 }

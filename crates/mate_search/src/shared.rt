@@ -53,11 +53,11 @@ impl Shared {
     /// The worker of this number has settled the root move. The race is over where it decides the root, and where no
     /// other is left. What a worker beside the first has found counts only where the first can learn it from the
     /// shards.
-    pub fn tell(&self, i: usize, outcome: RootFinding, number: u32) {
-        if number != 0 && !outcome.published {
+    pub fn tell(&self, i: usize, finding: RootFinding, number: u32) {
+        if number != 0 && !finding.published {
             return;
         }
-        if outcome.decides {
+        if finding.decides {
             self.over.raise();
         }
         if self.marks.finish(i) && self.open.fetch_sub(1, Ordering::SeqCst) <= 1 {

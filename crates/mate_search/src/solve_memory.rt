@@ -14,7 +14,7 @@ ghost use Rattle.mate_showing.specs.Answers.{IsDecided, IsRight};
 ghost use Rattle.mate_search.specs.Handed.{AreHandedBack, RootIsShared};
 ghost use Rattle.mate_search.specs.Races.{IsReady, race_lines, raced_lines};
 
-use crate::job::WorkerPasses;
+use crate::job::Worker;
 use crate::lending::{gather, join_all, room_for_jobs, share_out};
 use crate::ordering::hinted_moves;
 use crate::race::Race;
@@ -39,7 +39,7 @@ use watching::{Halt, Watch};
 pub(crate) struct SolveMemory<'s> {
     pub roots: Vec<Move>,
     pub shared: Shared,
-    pub jobs: Vec<WorkerPasses>,
+    pub jobs: Vec<Worker>,
     pub facts: FactTable<'s>,
 }
 
@@ -84,7 +84,7 @@ fn race_all<R: Threads + Wait + Sync, W: Watch, G: Gate + Sync>(
     rt: &R,
     race: &Race<G>,
     passes: Passes,
-    mut jobs: Vec<WorkerPasses>,
+    mut jobs: Vec<Worker>,
     workers: u32,
     facts: &mut FactTable,
     watch: &mut W,
@@ -103,7 +103,7 @@ fn race_all<R: Threads + Wait + Sync, W: Watch, G: Gate + Sync>(
     ensures ended { (why : Halt) → IsErrOf result.end why → W.ended watch.old watch.new (race_lines race.now) why }
 {
     let kept = share_out(race.shards, passes, &mut jobs, workers - 1);
-    let mut mine = WorkerPasses {
+    let mut mine = Worker {
         passes: kept,
         number: 0,
         step: 0,
@@ -120,7 +120,7 @@ pub(crate) fn run<R: Threads + Wait + Sync, W: Watch, G: Gate + Sync>(
     rt: &R,
     race: &Race<G>,
     passes: Passes,
-    jobs: Vec<WorkerPasses>,
+    jobs: Vec<Worker>,
     workers: u32,
     facts: &mut FactTable,
     watch: &mut W,

@@ -75,7 +75,7 @@ pub fn solve_watched<R: Threads + Wait + Sync, W: Watch, G: Gate + Sync>(
     if is_refuted(rt, shards, &mut passes, game, n) {
         return (passes, Ok(Settled::NoMate));
     }
-    let Ok(harness) = prepare(alloc, game, n, shards, hints, workers) else {
+    let Ok(memory) = prepare(alloc, game, n, shards, hints, workers) else {
         return (passes, Err(Halt::Fault(SearchFault::Memory)));
     };
     let SolveMemory {
@@ -83,7 +83,7 @@ pub fn solve_watched<R: Threads + Wait + Sync, W: Watch, G: Gate + Sync>(
         shared,
         jobs,
         mut facts,
-    } = harness;
+    } = memory;
     let race = Race {
         alloc,
         game,

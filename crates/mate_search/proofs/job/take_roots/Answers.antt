@@ -8,7 +8,7 @@ use Rattle.rules_model.specs.Next.{next}
 use Rattle.mate_search.specs.Races.{root_lines}
 use Rattle.mate_search.proofs.HandedLaws.{handed_none, handed_more}
 use Rattle.mate_search.proofs.RaceLaws.{part-skip, root-moves, root-rules, root-within}
-use Rattle.mate_search.proofs.job.take_roots.Goals.{then-takes+in_ok-outcome, else-takes}
+use Rattle.mate_search.proofs.job.take_roots.Goals.{then-takes+in_ok-finding, else-takes}
 use Rattle.mate_settle.proofs.OrderLaws.{no_move, read-at}
 use Rattle.mate_search.proofs.job.take_roots.Goals as goal
 
@@ -28,8 +28,8 @@ loop-i-init g c = record {
   gone = g.met.W.Watch.wider _ _ 0 _ (g.met.W.Watch.none c.args.watch.now) (omega arith);
 }
 
-pub returns-in_err-outcome-clause-ended : goal.returns-in_err-outcome-clause-ended
-returns-in_err-outcome-clause-ended g c why is =
+pub returns-in_err-finding-clause-ended : goal.returns-in_err-finding-clause-ended
+returns-in_err-finding-clause-ended g c why is =
     let race = c.args.race.now in
     let f = c.args.facts.now in
     let r = seen_in f in
@@ -52,8 +52,8 @@ returns-in_err-outcome-clause-ended g c why is =
     g.met.W.Watch.ends_wider _ _ _ (root_lines race) why (g.met.W.Watch.ends _ _ _ (sum_by (lines_after r left p) (take i ms)) (lines_within (seen_in c.loop-i.facts) left c.after-next.result.position) why c.loop-i.invariant.gone (c.settle_next.ensures.ended why back))
     (omega (arith, more, whole, root))
 
-pub returns-in_err-outcome-clause-handed : goal.returns-in_err-outcome-clause-handed
-returns-in_err-outcome-clause-handed g c = handed_more c.args.race.now.shards.now _ _ _ c.loop-i.invariant.handed c.settle_next.ensures.handed
+pub returns-in_err-finding-clause-handed : goal.returns-in_err-finding-clause-handed
+returns-in_err-finding-clause-handed g c = handed_more c.args.race.now.shards.now _ _ _ c.loop-i.invariant.handed c.settle_next.ensures.handed
 
 pub loop-i-preserved : goal.loop-i-preserved
 loop-i-preserved g c =
@@ -69,23 +69,23 @@ loop-i-preserved g c =
     let kept : c.loop-i.facts ≡ f = old.facts in
     let same-rules = root-rules race c.requires.ready f c.board-board.result c.requires.facts c.board-board.ensures in
     elim c.if-takes.branch [
-      | then-takes+in_ok-outcome w ↦
+      | then-takes+in_ok-finding w ↦
           (let x = get_or ms i no_move in
-          let e = w.in_ok-outcome.ensures in
+          let e = w.in_ok-finding.ensures in
           let within : i < length ms = c.loop-i-test.true in
           let at : slice_get ms i ≡ Some x = read-at ms i no_move within in
           let there : w.after-next.result.position ≡ next f.rules p x = after-is f.rules f c.board-board.result w.after-next.result x same-rules w.after-next.ensures in
           let lines = same-lines c.loop-i.facts f w.after-next.result.position (next f.rules p x) left kept there in
           record {
             facts = rw w.facts-is (e.frame ∙ kept);
-            handed = rw w.job-is (handed_more s _ _ _ old.handed e.handed);
+            handed = rw w.worker-is (handed_more s _ _ _ old.handed e.handed);
             gone = rw w.watch-is (g.met.W.Watch.wider _ _ _ _ (g.met.W.Watch.more _ _ _ (sum_by (lines_after r left p) (take i ms)) (lines_within (seen_in c.loop-i.facts) left w.after-next.result.position) old.gone e.gone)
                 (part-more r p left ms i x _ at lines));
           })
       | else-takes w ↦
           record {
             facts = rw w.facts-is kept;
-            handed = rw w.job-is old.handed;
+            handed = rw w.worker-is old.handed;
             gone = rw w.watch-is (g.met.W.Watch.wider _ _ _ _ old.gone (part-skip (lines_after r left p) ms i c.loop-i-test.true));
           }
     ]

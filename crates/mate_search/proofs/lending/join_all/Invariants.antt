@@ -5,8 +5,8 @@ use Rattle.mate_shards.specs.Views.{ArePassesOf}
 use Rattle.mate_search.specs.Races.{IsLent}
 use Rattle.mate_search.proofs.lending.join_all.Given as goal
 
-abbrev pub invariant-loop-job : goal.invariant-loop-job
-invariant-loop-job l = record {
+abbrev pub invariant-loop-worker : goal.invariant-loop-worker
+invariant-loop-worker l = record {
   passes : ArePassesOf l.shards l.all;
   lent : All (IsLent l.shards) l.jobs.items;
   few : vec_len l.jobs ≤ vec_len l.fn.jobs;
@@ -14,5 +14,5 @@ invariant-loop-job l = record {
   grown : HaveGrown l.fn.mine l.all;
 }
 
-abbrev pub decreases-loop-job : goal.decreases-loop-job
-decreases-loop-job l = length l.jobs.items
+abbrev pub decreases-loop-worker : goal.decreases-loop-worker
+decreases-loop-worker l = length l.jobs.items
