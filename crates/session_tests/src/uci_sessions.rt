@@ -2,8 +2,7 @@
 use crate::expect::{expect, expect_eq, expect_eq_at, expect_of};
 use foundation::Memory;
 use io_ports::{
-    Dialect, ListClock, MAX_LINE, MemFiles, MemSink, MemSource, OpenGate, PollsOwed, Ports,
-    SearchFault,
+    Dialect, ListClock, MemFiles, MemSink, MemSource, OpenGate, PollsOwed, Ports, SearchFault,
 };
 use std::alloc::Global;
 use std::process::Abort;
@@ -278,7 +277,7 @@ fn faults_end_a_session(rt: HostRuntime) {
 #[test]
 fn a_line_that_is_too_long_is_answered(rt: HostRuntime) {
     let mut input = Vec::new(rt.alloc());
-    for _ in 0..MAX_LINE + 1 {
+    for _ in 0..131_073 {
         input.push(b' ').expect(&rt, "no fault");
     }
     input

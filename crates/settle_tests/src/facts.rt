@@ -1,8 +1,8 @@
 //! Tests of `mate_fact`.
-ghost use Rattle.std.specs.Prelude.{◌≡◌};
+ghost use Rattle.std.specs.Prelude.{◌≡◌, [], ◌∷◌, None};
 ghost use Rattle.foundation.specs.Member.{Member};
 ghost use Rattle.legality.specs.Stance.{legal_in};
-ghost use Rattle.mate_fact.specs.InFrame.{ServesMoveIn};
+ghost use Rattle.mate_fact.specs.InFrame.{ServesMoveIn, end_in};
 
 use crate::expect::expect_eq;
 use crate::helpers::frame_of;
@@ -86,7 +86,8 @@ fn fact_after(
 ) -> Fact
     requires rules { board.now.rules ≡ frame.now.rules }
     requires legal { Member m.now (legal_in board.now) }
-    ensures { ServesMoveIn frame.now board.now.position m.now wins result }
+    ensures serves { ServesMoveIn frame.now board.now.position m.now wins result }
+    ensures moves { result.moves ≡ moves }
 {
     let next = board.after(m);
     let known = Fact {
@@ -159,7 +160,30 @@ fn facts_follow_by_one_move(rt: HostRuntime) {
 
 /// The fact on the position that follows from one on the position after its only legal move, which has this number of
 /// moves: a refutation where White is to move, who attacks, and else a win.
-fn by_all_moves(rt: &impl Abort, alloc: Global, p: &Position, m: &Move, moves: u16) -> Fact {
+fn by_the_only_move(
+    rt: &impl Abort,
+    frame: &Frame,
+    tables: &Tables,
+    board: &Board,
+    m: &Move,
+    moves: u16,
+) -> Fact
+    requires rules { board.now.rules ≡ frame.now.rules }
+    requires ongoing { end_in frame.now board.now.position ≡ None }
+    requires only { legal_in board.now ≡ m.now ∷ [] }
+{
+    let p = board.position();
+    let attacking = p.side.is(frame.attacker);
+    let known = [fact_after(rt, frame, board, m, moves, !attacking)];
+    if attacking {
+        refuted_by_all(frame, tables, p, &known)
+    } else {
+        by_all(frame, tables, p, &known)
+    }
+}
+
+/// The same, where the position has one legal move.
+fn by_all_moves(rt: &impl Abort, alloc: Global, p: &Position, moves: u16) -> Fact {
     let frame = frame_of(Vec::new(alloc));
     let tables = Tables::new(alloc, &frame.rules).expect(rt, "no fault");
     assert!(rt; sound(&frame.rules, p));
@@ -168,14 +192,10 @@ fn by_all_moves(rt: &impl Abort, alloc: Global, p: &Position, m: &Move, moves: u
         panic!(rt; "it is ended");
     };
     let legal = legal_moves(alloc, &frame.rules, &tables, p).expect(rt, "no fault");
-    assert!(rt; legal.items.as_slice() == [*m].as_slice());
-    let attacking = p.side.is(frame.attacker);
-    let known = [fact_after(rt, &frame, &board, m, moves, !attacking)];
-    if attacking {
-        refuted_by_all(&frame, &tables, p, &known)
-    } else {
-        by_all(&frame, &tables, p, &known)
-    }
+    let [m] = legal.items.as_slice() else {
+        panic!(rt; "it has not one move");
+    };
+    by_the_only_move(rt, &frame, &tables, &board, m, moves)
 }
 
 /// Asserts what a fact by all moves says: for how many moves, at which counter, and whether it is a win.
@@ -183,11 +203,10 @@ fn expect_by_all(
     rt: &impl Abort,
     alloc: Global,
     p: &Position,
-    m: &Move,
     moves: u16,
     wanted: (u16, u16, bool),
 ) {
-    let fact = by_all_moves(rt, alloc, p, m, moves);
+    let fact = by_all_moves(rt, alloc, p, moves);
     expect_eq(rt, (fact.moves, fact.counter, fact.wins), wanted);
     expect_eq(rt, fact.best, None);
 }
@@ -196,11 +215,9 @@ fn expect_by_all(
 #[test]
 fn facts_follow_by_all_moves(rt: HostRuntime) {
     let alloc = rt.alloc();
-    let corner = go(Square::at(0, 0), Square::at(1, 0));
     let white = placed("Ka1 rc2 kh8", Side::White, 7);
-    expect_by_all(&rt, alloc, &white, &corner, 2, (3, 7, false));
-    expect_by_all(&rt, alloc, &white, &corner, 65535, (65535, 7, false));
-    let flight = go(Square::at(7, 7), Square::at(6, 7));
+    expect_by_all(&rt, alloc, &white, 2, (3, 7, false));
+    expect_by_all(&rt, alloc, &white, 65535, (65535, 7, false));
     let black = placed("Kg6 Ra1 kh8", Side::Black, 7);
-    expect_by_all(&rt, alloc, &black, &flight, 2, (2, 7, true));
+    expect_by_all(&rt, alloc, &black, 2, (2, 7, true));
 }
