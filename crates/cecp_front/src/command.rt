@@ -132,6 +132,10 @@ fn read_text<'a>(alloc: Global, text: &'a [u8]) -> Result<Command<'a>, Memory>
 
 /// The command of the line that was taken: its first word, with what the words after that say. An empty line does
 /// nothing.
+///
+/// # Errors
+///
+/// `Memory`.
 #[tactic(auto, unfolding(session_model::specs::CecpLines::command_of))]
 pub fn read_line<'a>(alloc: Global, next: Got, line: &'a [u8]) -> Result<Command<'a>, Memory>
     ensures { IfOk result (λ command. command_seen command ≡ CecpLines.command_of (line_got next line.now)) }

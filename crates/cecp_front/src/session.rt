@@ -63,6 +63,10 @@ impl CecpSession {
     /// A session that begins with chess, its start and the engine playing Black, without thinking output and without
     /// limits. The sections begin with those that are built in, and the variants were loaded from them; from 1 to 64
     /// workers search.
+    ///
+    /// # Errors
+    ///
+    /// `Memory`.
     pub fn new(
         alloc: Global,
         sections: Sections,

@@ -138,7 +138,7 @@ pub fn answer_of<'a>(alloc: Global, outcome: Result<Text, NoAnswer<'a>>) -> Resu
     }
 }
 
-/// The answer of a one-shot command, with what it reads of the source. Workers pass the gate before what they take on.
+/// The answer of a one-shot command, with what it reads of the source. Workers pass the gate before each piece of work.
 ///
 /// # Errors
 ///

@@ -38,6 +38,10 @@ fn keys_of<R: Wait>(
 
 /// The text of `keys N`: the first moves with which the side that is to move wins the game of the input within N moves,
 /// which is of a variant of these sections.
+///
+/// # Errors
+///
+/// The game text's first fault, or why no first moves are looked for; or the source failed, or there was no memory.
 pub fn keys_text<R: Wait, S: Source>(
     rt: &R,
     alloc: Global,

@@ -15,6 +15,10 @@ use variant_ini::Sections;
 use variant_rules::load;
 
 /// The game that the game text of the input says, of a variant of these sections.
+///
+/// # Errors
+///
+/// The game text's first fault; or the source failed, or there was no memory.
 pub fn game_in<S: Source>(
     alloc: Global,
     sections: &Sections,

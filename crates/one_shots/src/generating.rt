@@ -40,6 +40,10 @@ fn generate_in<R: Threads + Sync>(
 }
 
 /// The text of `generate`: the report of the random game of this number in the variant of this name.
+///
+/// # Errors
+///
+/// No variant has the name, or it is refused; or there was no memory.
 pub fn generate<R: Threads + Sync>(
     rt: &R,
     alloc: Global,

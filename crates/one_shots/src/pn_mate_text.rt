@@ -39,6 +39,10 @@ fn print(alloc: Global, count: Result<Option<u16>, PnFault>) -> Result<Text, NoA
 
 /// The text of `pnmate N`: within how many moves, up to N, the side that is to move wins the game of the input, which
 /// is of a variant of these sections.
+///
+/// # Errors
+///
+/// The game text's first fault, or why no mate is looked for; or the source failed, or there was no memory.
 pub fn pn_mate_text<S: Source>(
     alloc: Global,
     moves: u16,

@@ -74,6 +74,10 @@ fn play_on(alloc: Global, game: &mut Game, generator: &mut Pcg32, plies: u16) ->
 
 /// The game of this number by these rules: from their start, up to this many moves, while the game is ongoing. Each
 /// move is picked from the list of the legal moves by a word of a generator that begins with the number.
+///
+/// # Errors
+///
+/// `Memory`.
 pub fn random_game(alloc: Global, rules: &Rules, number: u64, plies: u16) -> Result<Game, Memory>
     requires fit { IsFit rules.now }
     requires start { is_sound rules.now rules.now.start ≡ true }

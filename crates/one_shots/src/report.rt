@@ -52,6 +52,10 @@ fn value_text<R: Threads + Sync>(rt: &R, alloc: Global, game: &Game) -> Result<T
 
 /// The report of a game that was generated in a variant of this name, by this number: how many moves it has, its last
 /// position, how it stands, how many lines of two moves there are, and its value at depth 2.
+///
+/// # Errors
+///
+/// `Memory`.
 #[tactic(auto, unfolding(crate::specs::Generate::generated_text))]
 pub fn report_of<R: Threads + Sync>(
     rt: &R,

@@ -40,6 +40,10 @@ fn rules_in(
 }
 
 /// The text of `rules`: the lines `key = value` of the rules of the variant of this name, those that it inherits too.
+///
+/// # Errors
+///
+/// No variant has the name, or it is refused; or there was no memory.
 pub fn rules_text(alloc: Global, sections: &Sections, name: &str) -> Result<Text, NoAnswer<'static>>
     ensures answers { Answers result (SaysRules sections.now name.now) }
     ensures reads_nothing { ¬ (IsUnheard result) }

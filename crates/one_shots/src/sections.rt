@@ -13,6 +13,10 @@ use variant_rules::{builtin, read_sections};
 
 /// The sections that are built in, and after them those of the file of variants of this name, where one is named. Where
 /// none is, no file is read.
+///
+/// # Errors
+///
+/// Why the file of variants is refused; or there was no memory.
 pub fn sections_with<F: Files>(
     alloc: Global,
     files: &mut F,

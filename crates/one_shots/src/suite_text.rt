@@ -19,6 +19,10 @@ use variant_rules::load;
 
 /// The text of `suite`: the report on the problems of the input, which are of variants of these sections, by this
 /// number of workers.
+///
+/// # Errors
+///
+/// The first fault of the input; or the source failed, or there was no memory.
 pub fn suite_text<R: Threads + Wait + Sync, S: Source, G: Gate + Sync>(
     rt: &R,
     alloc: Global,

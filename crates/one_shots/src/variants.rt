@@ -54,6 +54,10 @@ fn push_variants(alloc: Global, text: &mut Vec<u8>, variants: &Variants) -> Resu
 }
 
 /// A line for each section: its name, and `ok` or its first fault.
+///
+/// # Errors
+///
+/// `Memory`.
 pub fn variants_of(alloc: Global, sections: &Sections) -> Result<Text, Memory>
     ensures { IfOk result (λ text. text ≡ variants_text (entries sections.now)) }
 {

@@ -6,12 +6,13 @@ ghost use Rattle.session_model.specs.Lines.{Causes, Exchanges, HeardPart, Waited
 use io_ports::{Dialect, LineBuf, SearchFault, Sink, Source};
 use watching::{Cut, Halt, heed};
 
-/// Hears lines, and answers them as a search does, until one stops a search, or to their end.
+/// Hears lines, and answers them as a search does, until one stops a search, or to their end. Answers which of the two
+/// it was.
 ///
 /// # Errors
 ///
-/// The fault of the source or of the sink; or, after 2^64 - 1 lines, no memory. The lines that were heard until then are
-/// answered, and only where the sink failed the last one in part.
+/// The fault of the source or of the sink; or, after 2^64 - 1 lines, no memory. The lines that were heard until then
+/// are answered, and only where the sink failed the last one in part.
 pub fn wait<S: Source, K: Sink>(
     source: &mut S,
     sink: &mut K,

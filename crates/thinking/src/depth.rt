@@ -48,8 +48,8 @@ fn reading_for<C: Clock>(style: Style, clock: &mut C) -> u64
     }
 }
 
-/// Searches the task to one depth, after a first reading of the clock, and tells of it. A mate that the value stands
-/// for is looked for.
+/// Searches the task to one depth, from 1 to 64, after a first reading of the clock, and tells of it. A mate that the
+/// value stands for is looked for.
 ///
 /// # Errors
 ///

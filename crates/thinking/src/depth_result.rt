@@ -13,9 +13,9 @@ use watching::Cut;
 pub enum Score {
     /// The value.
     Points(i32),
-    /// The mover mates within this number of moves, and so.
+    /// The mover mates within this number of moves, by this strategy.
     Mates(u16, Strategy),
-    /// The other side mates within this number of moves, and so.
+    /// The other side mates within this number of moves, by this strategy.
     Mated(u16, Strategy),
 }
 
@@ -52,7 +52,7 @@ pub struct AnnouncedMate {
     pub moves: u16,
 }
 
-/// A repeat and its counters as evidence.
+/// A repeat and its counters, of which there is at least one, as evidence.
 pub fn evidence_at(repeat: Repeat, mut counters: Counters) -> Evidence
     requires { 0 < length counters }
     ensures repeat { result.repeat ≡ repeat }

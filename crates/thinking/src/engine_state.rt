@@ -38,7 +38,12 @@ impl Model for EngineState {
 }
 
 impl EngineState {
-    /// Without a hint, with 4,096 facts a shard and 16 MiB for hints, which the first search or solve takes.
+    /// Without a hint, with 4,096 facts a shard and 16 MiB for hints, which the first search or solve takes. From 1 to
+    /// 64 workers search.
+    ///
+    /// # Errors
+    ///
+    /// `Memory`.
     pub fn new(alloc: Global, threads: u32) -> Result<EngineState, Memory>
         requires threads { (LEAST_THREADS ≤ threads) × (threads ≤ MOST_THREADS) }
         ensures { IfOk result (λ m. m ≡ first_settings threads) }

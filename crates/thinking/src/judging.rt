@@ -124,7 +124,7 @@ pub fn seek_mate<R: Threads + Wait + Sync, S: Source, K: Sink, C: Clock, G: Gate
     }
 }
 
-/// Searches the task to one depth, and looks for the mate that the value stands for.
+/// Searches the task to one depth, from 1 to 64, and looks for the mate that the value stands for.
 ///
 /// # Errors
 ///

@@ -51,6 +51,10 @@ fn push_counters(alloc: Global, text: &mut Vec<u8>, counters: &[u16]) -> Result<
 }
 
 /// The line that a mate stays unsettled: the position at its first counter, and all counters.
+///
+/// # Errors
+///
+/// `Memory`.
 pub fn unsettled_line(alloc: Global, rules: &Rules, e: &Evidence) -> Result<Text, Memory>
     requires fit { IsFit rules.now }
     requires sound { is_sound rules.now (Mates.position_at e.now.repeat e.now.first) ≡ true }
@@ -76,6 +80,10 @@ fn uci_score(alloc: Global, score: &Score) -> Result<String, AllocError>
 }
 
 /// The line of a depth in UCI: its score and best move.
+///
+/// # Errors
+///
+/// `Memory`.
 pub fn depth_line(alloc: Global, depth: u8, score: &Score, best: &Move) -> Result<Text, Memory>
     ensures { IfOk result (λ text. text ≡ UciTexts.depth_line depth (score_seen score.now) best.now) }
 {
@@ -133,7 +141,12 @@ fn uci_lines(alloc: Global, rules: &Rules, depth: u8, found: &DepthResult) -> Re
     }
 }
 
-/// The lines of a depth, one after the other, after a first reading of the clock and one after the depth.
+/// The lines of a depth, one after the other. `first` is the reading of the clock at the start, `clock` that after the
+/// depth, in milliseconds.
+///
+/// # Errors
+///
+/// `Memory`.
 pub fn depth_lines(
     alloc: Global,
     style: Style,

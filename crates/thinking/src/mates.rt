@@ -24,7 +24,7 @@ use watching::{Cut, Halt};
 /// The first answer of solves within 1, 2, .. moves that is not that there is no mate; or that there is none.
 #[derive(Drop)]
 pub enum MateAttempt {
-    /// The mover mates within this number of moves, and so, with this move first.
+    /// The mover mates within this number of moves, by this strategy, with this move first.
     Shown {
         moves: u16,
         strategy: Strategy,
@@ -44,7 +44,7 @@ pub enum MateAttempt {
     NoMate,
 }
 
-/// Looks for a mate of the mover within 1, 2, .. moves, up to the last number.
+/// Looks for a mate of the mover, who has a legal move, within 1, 2, .. moves, up to the last number, from 1 to 100.
 ///
 /// # Errors
 ///

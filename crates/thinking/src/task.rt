@@ -32,7 +32,7 @@ pub struct Start {
     pub deadline: Option<u64>,
 }
 
-/// Reads the clock, from which on the time counts. A sum above 2^64 - 1 stands as that number.
+/// Reads the clock, and sets the deadline `time` milliseconds later, at most 2^64 - 1; none where no time is given.
 pub fn begin<C: Clock>(clock: &mut C, time: Option<u64>) -> Start
     ensures given { GivesReadings (C.count clock.new) (C.given clock.old) (C.given clock.new) (result.first ∷ []) }
     ensures count { C.count clock.new ≡ count_after (C.count clock.old) (result.first ∷ []) }
@@ -47,7 +47,7 @@ pub fn begin<C: Clock>(clock: &mut C, time: Option<u64>) -> Start
     Start { first, deadline }
 }
 
-/// What is left of a share after N nodes.
+/// What is left of the share after `entered` nodes, 0 at the least; None where there is no share.
 pub fn quota_left(share: Option<u64>, entered: u64) -> Option<u64>
     ensures { result ≡ option_map (λ number. number - entered) share }
 {

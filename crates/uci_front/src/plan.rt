@@ -13,7 +13,7 @@ use rules_model::{Move, MoveList};
 use std::alloc::Global;
 use uci_lines::{is_held, last_depth, last_mate, read_go, roots_of, share_of, time_for, words_in};
 
-/// What a line `go` asks of a game, so that its search needs the line no more.
+/// What a line `go` asks of a game, so that the search no longer needs the line.
 #[derive(Drop)]
 pub struct GoPlan {
     /// The legal moves.
@@ -54,6 +54,10 @@ fn mate_of(mate: Option<u64>) -> Option<u16>
 }
 
 /// What the words after `go` ask of the session's game.
+///
+/// # Errors
+///
+/// `Memory`.
 pub fn read_plan(alloc: Global, session: &UciSession, rest: Option<&[u8]>) -> Result<GoPlan, Memory>
     ensures { IfOk result (IsPlan session.now (go_of (words_said rest.entry))) }
 {

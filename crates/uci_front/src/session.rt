@@ -114,6 +114,10 @@ fn number_or_bad(
 impl UciSession {
     /// A session of these sections, of which the first are those that are built in, with their variants: chess, this
     /// number of threads, and the other options as `uci` tells them.
+    ///
+    /// # Errors
+    ///
+    /// `Memory`.
     #[tactic(auto, unfolding(session_model::specs::UciState::first_state))]
     pub fn new(
         alloc: Global,
@@ -194,7 +198,7 @@ impl UciSession {
     ///
     /// # Errors
     ///
-    /// The value is none of the option's, or as `set_variant`. The session is what it was.
+    /// The option does not take the value, or as `set_variant`. The session is what it was.
     #[tactic(auto, unfolding(session_model::specs::UciState::set))]
     pub fn set(&mut self, alloc: Global, setting: &Setting) -> Result<(), Refusal>
         ensures outcome { IsOutcome (UciState.set self.old (setting_seen setting.now)) self.new result }
@@ -228,7 +232,7 @@ impl UciSession {
         }
     }
 
-    /// Places the game.
+    /// Sets the position of a line `position` and plays its moves.
     ///
     /// # Errors
     ///
@@ -256,6 +260,10 @@ impl UciSession {
     }
 
     /// What `uci` answers.
+    ///
+    /// # Errors
+    ///
+    /// `Memory`.
     pub fn uci_text(&self, alloc: Global) -> Result<Text, Memory>
         ensures { IfOk result (λ text. text ≡ UciTexts.uci_text self.now.sections) }
     {
@@ -263,6 +271,10 @@ impl UciSession {
     }
 
     /// What `strategy` answers: the proof text of the mate that was announced last.
+    ///
+    /// # Errors
+    ///
+    /// `Memory`.
     pub fn strategy_text(&self, alloc: Global) -> Result<Text, Memory>
         ensures { IfOk result (λ text. text ≡ UciTexts.strategy_text self.now self.now.kept) }
     {

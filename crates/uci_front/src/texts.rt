@@ -36,6 +36,10 @@ pub(crate) const STOPPED: &[u8] = b"info string stopped\n";
 pub(crate) const NO_STRATEGY: &[u8] = b"info string no strategy\n";
 
 /// The line of a fault.
+///
+/// # Errors
+///
+/// `Memory`.
 pub fn error_line(alloc: Global, fault: &[u8]) -> Result<Text, Memory>
     ensures { IfOk result (λ text. text ≡ UciTexts.error_line fault.now) }
 {
@@ -138,6 +142,10 @@ fn introduction() -> &'static [u8]
 }
 
 /// What `uci` answers where these are the variants of the sections.
+///
+/// # Errors
+///
+/// `Memory`.
 pub fn uci_text(alloc: Global, variants: &Variants) -> Result<Text, Memory>
     ensures { (sections : List Section) → variants.now ≡ entries sections
         → IfOk result (λ text. text ≡ UciTexts.uci_text sections) }
@@ -149,7 +157,11 @@ pub fn uci_text(alloc: Global, variants: &Variants) -> Result<Text, Memory>
     Ok(Text { items })
 }
 
-/// What `go perft` answers.
+/// What `go perft` answers, for 1 to 9 plies.
+///
+/// # Errors
+///
+/// `Memory`.
 #[tactic(auto, unfolding(session_model::specs::UciTexts::perft_line))]
 pub fn perft_line(alloc: Global, plies: u8, game: &Game) -> Result<Text, Memory>
     requires least { 1 ≤ plies }
@@ -162,7 +174,11 @@ pub fn perft_line(alloc: Global, plies: u8, game: &Game) -> Result<Text, Memory>
     Ok(Text { items })
 }
 
-/// That the mover mates within this number of moves, with this move first.
+/// That the mover mates within this number of moves, from 1 to 100, with this move first.
+///
+/// # Errors
+///
+/// `Memory`.
 pub fn mate_line(alloc: Global, moves: u16, best: &Move) -> Result<Text, Memory>
     requires some { 1 ≤ moves }
     requires few { moves ≤ MOST_MATE }
@@ -177,6 +193,10 @@ pub fn mate_line(alloc: Global, moves: u16, best: &Move) -> Result<Text, Memory>
 }
 
 /// That the mover has no mate within this number of moves.
+///
+/// # Errors
+///
+/// `Memory`.
 pub fn no_mate_line(alloc: Global, moves: u16) -> Result<Text, Memory>
     ensures { IfOk result (λ text. text ≡ UciTexts.no_mate_line moves) }
 {
@@ -185,6 +205,10 @@ pub fn no_mate_line(alloc: Global, moves: u16) -> Result<Text, Memory>
 }
 
 /// The line of the best move, or that there is none.
+///
+/// # Errors
+///
+/// `Memory`.
 pub fn last_line(alloc: Global, best: Option<Move>) -> Result<Text, Memory>
     ensures { IfOk result (λ text. text ≡ last_line best) }
 {

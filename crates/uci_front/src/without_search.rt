@@ -141,7 +141,7 @@ fn answer_at_once(
     }
 }
 
-/// What is answered to a line that asks no search, where anything is; what it sets is set.
+/// The answer to a line that asks no search, if it has one. What the line sets is set.
 pub(crate) fn answer_plain<F: Files>(
     alloc: Global,
     session: &mut UciSession,
