@@ -25,6 +25,7 @@ use Rattle.session_model.specs.Events.{IsStopped}
 use Rattle.session_model.specs.Thinking.{Task, Report, Cause, Ending, Interrupted, Whole, InSearch, InSolve, AreReports, Deepens, IsOpen, IsReport, MayCut, MayEnd, announced_by, last_announced, last_best, open_report, searches_upto, solve_within}
 use Rattle.session_model.specs.UciSession.{first_of}
 use Rattle.session_model.specs.Lines.{Follows, Held, none, one}
+use Rattle.session_model.specs.Turned.{RanPart}
 use Rattle.thinking.specs.declared.depth.Depth.{Depth}
 use Rattle.thinking.specs.declared.depth.Depth.TheVariants.{Done, Off}
 use Rattle.thinking.specs.declared.depth_result.CutSolve.{CutSolve}
@@ -34,7 +35,7 @@ use Rattle.thinking.specs.declared.style.Style.{Style}
 use Rattle.thinking.specs.Cuts.{CutsBy, cause_of}
 use Rattle.thinking.specs.Depths.{BrokeDepth, BrokeOff, Deepened, Deepening, Deeper, IsDepth, cut_in, reach_at, reports_in}
 use Rattle.thinking.specs.Judging.{bound_at}
-use Rattle.thinking.specs.Tells.{BrokeHeld, Tells}
+use Rattle.thinking.specs.Tells.{Tells}
 use Rattle.thinking.specs.Views.{announced_seen, report_of}
 use Rattle.thinking.proofs.CutLaws.{cuts_after, cuts_as, cuts_wider}
 use Rattle.thinking.proofs.RanLaws.{broke_held_more}
@@ -238,7 +239,7 @@ module _ {S K C : Type 0} {left : S → Option (List ℕ)} {taken : K → Option
           untold : Spends Untold Untold (depths_bound t.game.rules done (story t.game))
           untold = refl
 
-          by_depth : (d : Depth) → BrokeHeld dialect (Moves left taken given count last s' s'' k' k'' c' c'') (held (cut_in d) b.text) (λ events.
+          by_depth : (d : Depth) → RanPart dialect (Moves left taken given count last s' s'' k' k'' c' c'') (held (cut_in d) b.text) (λ events.
               Tells dialect style t.game.rules first (done + 1) (reports_in d) events
               × IfSome (cut_in d) (CutsBy dialect Untold (bound_at t (done + 1)) limits.quota limits.deadline (reach_at t (done + 1) d) (readings events) b.text))
               → IsDepth t (done + 1) d → BrokeOff dialect style (Moves left taken given count last s s'' k k'' c c'') t first

@@ -12,9 +12,10 @@ use Rattle.io_ports.proofs.Moved.{moves_at, moves_more, takes_none}
 use Rattle.watching.specs.EventLaws.{heard_lines-append, readings-append, written-append}
 use Rattle.watching.specs.Events.{Event, Says, Reads, AreUnstopped, heard_lines, readings, said, written}
 use Rattle.watching.specs.Looks.{Broke, Moved, Ran}
+use Rattle.session_model.specs.Turned.{RanPart}
 use Rattle.thinking.specs.declared.style.Style.{Style}
 use Rattle.thinking.specs.declared.style.Style.TheVariants as style
-use Rattle.thinking.specs.Tells.{BrokeHeld, reads_by}
+use Rattle.thinking.specs.Tells.{reads_by}
 
 -- ---- texts that are said
 
@@ -65,7 +66,7 @@ readings_told style.Silent reading texts = readings_says texts
 
 -- nothing is held
 pub broke_held : {moved : Moved} {P Q : List Event → Type 0} (dialect : Dialect)
-    → ((events : List Event) → P events → Q events) → Broke dialect moved P → BrokeHeld dialect moved [] Q
+    → ((events : List Event) → P events → Q events) → Broke dialect moved P → RanPart dialect moved [] Q
 broke_held {moved = moved} dialect f b = record {
   events = b.events;
   front = b.front;
@@ -115,7 +116,7 @@ module _ {S K C : Type 0} {left : S → Option (List ℕ)} {taken : K → Option
       → Ran dialect (Moves left taken given count last s s' k k' c c') behind P
       → concat texts ≡ front ++ back
       → Moves left taken given count last s' s' k' k'' c' c'' [] front (reads_by style reading)
-      → BrokeHeld dialect (Moves left taken given count last s s' k k'' c c'') behind R
+      → RanPart dialect (Moves left taken given count last s s' k k'' c c'') behind R
   broke_told {behind = behind} R style reading texts front back f a whole moves =
       let more = told style reading texts in
       record {
@@ -137,8 +138,8 @@ module _ {S K C : Type 0} {left : S → Option (List ℕ)} {taken : K → Option
   pub broke_held_more : {s s' s'' : S} {k k' k'' : K} {c c' c'' : C} {behind : List Line} {P Q : List Event → Type 0} (R : List Event → Type 0)
       → ((a b : List Event) → P a → Q b → R (a ++ b))
       → Ran dialect (Moves left taken given count last s s' k k' c c') [] P
-      → BrokeHeld dialect (Moves left taken given count last s' s'' k' k'' c' c'') behind Q
-      → BrokeHeld dialect (Moves left taken given count last s s'' k k'' c c'') behind R
+      → RanPart dialect (Moves left taken given count last s' s'' k' k'' c' c'') behind Q
+      → RanPart dialect (Moves left taken given count last s s'' k k'' c c'') behind R
   broke_held_more {behind = behind} R f a b = record {
     events = a.events ++ b.events;
     front = written dialect a.events ++ b.front;

@@ -15,9 +15,10 @@ use Rattle.session_model.specs.Events.{IsStopped}
 use Rattle.session_model.specs.Mates.{Announced}
 use Rattle.session_model.specs.Thinking.{Task, Report, Ending, AreReports, Deepens, IsOpen, IsReport, last_announced, last_best, reported, searches_upto}
 use Rattle.session_model.specs.Lines.{Follows, Held}
+use Rattle.session_model.specs.Turned.{RanPart}
 use Rattle.thinking.specs.Cuts.{CutsBy, IsEndedBy}
 use Rattle.thinking.specs.Judging.{bound_at, search_at, solve_cut, solve_reach}
-use Rattle.thinking.specs.Tells.{BrokeHeld, Tells}
+use Rattle.thinking.specs.Tells.{Tells}
 use Rattle.thinking.specs.Views.{announced_seen, report_of}
 use Rattle.thinking.specs.declared.deepening.Depths.{Depths}
 use Rattle.thinking.specs.declared.depth.Depth.{Depth}
@@ -60,7 +61,7 @@ pub record BrokeDepth (dialect : Dialect) (style : Style) (moved : Moved) (t : T
     (limits : Limits) : Type 0 where
   pub text : List ℕ
   pub d : Depth
-  pub broke : BrokeHeld dialect moved (held (cut_in d) text) (λ events.
+  pub broke : RanPart dialect moved (held (cut_in d) text) (λ events.
       Tells dialect style t.game.rules first depth (reports_in d) events
       × IfSome (cut_in d) (CutsBy dialect Untold (bound_at t depth) limits.quota limits.deadline (reach_at t depth d)
       (readings events) text))
@@ -103,6 +104,6 @@ pub record BrokeOff (dialect : Dialect) (style : Style) (moved : Moved) (t : Tas
   pub behind : List Line
   pub is_held : Held behind
   pub stopped : IsStopped dialect behind
-  pub broke : BrokeHeld dialect moved behind (λ events.
+  pub broke : RanPart dialect moved behind (λ events.
       Tells dialect style t.game.rules first 1 (reported reports ending) events
       × Deepens dialect ⊤ t reports ending (first ∷ readings events) behind)

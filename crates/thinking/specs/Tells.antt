@@ -1,10 +1,8 @@
 -- The lines of depths, by the protocol.
-use Rattle.std.specs.Prelude.{◌≡◌, ℕ, List, [], ◌∷◌, ◌++◌, map, Option, Some}
+use Rattle.std.specs.Prelude.{◌≡◌, ℕ, List, [], ◌∷◌, map, Option, Some}
 use Rattle.io_ports.specs.declared.dialect.Dialect.{Dialect}
-use Rattle.io_ports.specs.Lines.{Line}
 use Rattle.rules_model.specs.declared.rules.Rules.{Rules}
-use Rattle.watching.specs.Events.{Event, AreUnstopped, heard_lines, readings, said, written}
-use Rattle.watching.specs.Looks.{Moved}
+use Rattle.watching.specs.Events.{Event, AreUnstopped, said}
 use Rattle.session_model.specs.CecpSession.{post_lines}
 use Rattle.session_model.specs.Events.{clocked}
 use Rattle.session_model.specs.Thinking.{Report}
@@ -37,13 +35,3 @@ abbrev pub reads_by : Style → ℕ → List ℕ
 reads_by style.Uci reading = []
 reads_by style.Post reading = reading ∷ []
 reads_by style.Silent reading = []
-
--- Events were gone through of which this holds, and these lines come after them. Only a front part was written.
-pub record BrokeHeld (dialect : Dialect) (moved : Moved) (behind : List Line)
-    (Holds : List Event → Type 0) : Type 0 where
-  pub events : List Event
-  pub front : List ℕ
-  pub back : List ℕ
-  pub wrote : written dialect events ≡ front ++ back
-  pub went : moved (heard_lines events ++ behind) front (readings events)
-  pub holds : Holds events
