@@ -32,10 +32,10 @@ use Rattle.game_play.specs.Played.{IsPlayed, Played, shorter, story}
 use Rattle.game_text.specs.GameText.{started}
 use Rattle.game_text.specs.Playing.{move_of}
 use Rattle.game_text.proofs.PlayLemmas.{plays-illegal, plays-named, plays-nothing}
+use Rattle.session_model.specs.Begins.{rules_said}
 use Rattle.session_model.specs.CecpLines.{command_of, New}
 use Rattle.session_model.specs.CecpSession.{answer_of}
-use Rattle.session_model.specs.CecpState.{State, answer_to, first_state, renewed, rules_said, set_variant, shown_name, state_by, with_game, without_last}
-use Rattle.cecp_front.specs.Answers.{answered}
+use Rattle.session_model.specs.CecpState.{State, answer_to, first_state, renewed, says, set_variant, shown_name, state_by, with_game, without_last}
 use Rattle.session_model.specs.Lines.{got_line}
 use Rattle.uci_lines.specs.View.{texts}
 
@@ -64,10 +64,10 @@ started_again rules given other game other_is given_is game_is =
 -- `new` begins with chess
 pub renewed_chess : (seen old : State) (rules : Rules) (game : Played) (line : Line) (text : List ℕ) → seen ≡ old
     → found (entries seen.sections) (codes "chess") ≡ Some (Ok rules) → game ≡ started rules rules.start → text ≡ []
-    → answered (with_game (renewed seen) game) text ≡ answer_to old line New
+    → says (with_game (renewed seen) game) text ≡ answer_to old line New
 renewed_chess seen old rules game line text seen_is chess game_is silent_is =
-    ap (λ (g : Played). answered (with_game (renewed seen) g) text) game_is
-    ∙ ap (answered (with_game (renewed seen) (started rules rules.start))) silent_is
+    ap (λ (g : Played). says (with_game (renewed seen) g) text) game_is
+    ∙ ap (says (with_game (renewed seen) (started rules rules.start))) silent_is
     ∙ sym (ap (set_variant seen renewed line) chess)
     ∙ ap (λ (s : State). answer_to s line New) seen_is
 
@@ -154,14 +154,14 @@ module _ (g : Played) (rules : Rules) (p : Position) (text : List ℕ) (played :
 -- ---- lines that are too long
 
 pub long_answer : (state : State) (next : Got) (line text : List ℕ) → got_line next line ≡ lines.TooLong → text ≡ too_long Cecp
-    → answered state text ≡ answer_of state (got_line next line)
+    → says state text ≡ answer_of state (got_line next line)
 unfolding command_of
 long_answer state next line text long is =
-    ap (answered state) is ∙ sym (ap (answer_of state) long)
+    ap (says state) is ∙ sym (ap (answer_of state) long)
 
 pub long_answers : {E : Type 0} (state : State) (next : Got) (line : List ℕ) (r : Result (List ℕ) E)
     → (next ≡ got.TooLong) ⊎ ((next ≡ got.End) ⊎ (next ≡ got.Failed)) → IfOk r (λ text. text ≡ too_long Cecp)
-    → IfOk r (λ text. answered state text ≡ answer_of state (got_line next line))
+    → IfOk r (λ text. says state text ≡ answer_of state (got_line next line))
 long_answers state next line (Ok text) is h = long_answer state next line text (elim is [
   | inl long ↦ ap (λ n. got_line n line) long
   | inr other ↦ elim other [

@@ -11,7 +11,7 @@ ghost use Rattle.session_model.specs.CecpSession.{answer_of};
 ghost use Rattle.session_model.specs.CecpState as CecpState;
 ghost use Rattle.session_model.specs.Mates.{mover};
 ghost use Rattle.session_model.specs.Lines.{got_line};
-ghost use Rattle.cecp_front.specs.Answers.{answered, begun, is_known};
+ghost use Rattle.cecp_front.specs.Answers.{begun, is_known};
 
 use crate::session::CecpSession;
 use crate::texts::{error_line, feature_line, illegal_line, long_line, pong_line, result_line};
@@ -83,7 +83,7 @@ impl CecpSession {
 
     // `new`.
     fn renew(&mut self, alloc: Global) -> Result<Text, Memory>
-        ensures { (line : lines.Line) → IfOk result (λ text. answered self.new text
+        ensures { (line : lines.Line) → IfOk result (λ text. CecpState.says self.new text
             ≡ CecpState.answer_to self.old line CecpLines.New) }
     {
         self.game = self.chess.another(alloc, &self.chess.rules().start)?;
@@ -95,7 +95,7 @@ impl CecpSession {
 
     // `variant NAME`.
     fn set_variant(&mut self, alloc: Global, line: &[u8], name: &[u8]) -> Result<Text, Memory>
-        ensures { IfOk result (λ text. answered self.new text
+        ensures { IfOk result (λ text. CecpState.says self.new text
             ≡ CecpState.answer_to self.old (TextLine line.now) (CecpLines.Variant name.now)) }
     {
         if self.begin(alloc, section_name(name))? {
@@ -107,7 +107,7 @@ impl CecpSession {
 
     // `setboard F`.
     fn set_board(&mut self, alloc: Global, line: &[u8], fen: &[u8]) -> Result<Text, Memory>
-        ensures { IfOk result (λ text. answered self.new text
+        ensures { IfOk result (λ text. CecpState.says self.new text
             ≡ CecpState.answer_to self.old (TextLine line.now) (CecpLines.SetBoard fen.now)) }
     {
         self.game.prove_played();
@@ -150,7 +150,7 @@ impl CecpSession {
 
     // `usermove M`.
     fn user_move(&mut self, alloc: Global, line: &[u8], text: &[u8]) -> Result<Text, Memory>
-        ensures { IfOk result (λ answer. answered self.new answer
+        ensures { IfOk result (λ answer. CecpState.says self.new answer
             ≡ CecpState.answer_to self.old (TextLine line.now) (CecpLines.UserMove text.now)) }
     {
         let Some(m) = self.move_of(text) else {
@@ -178,7 +178,7 @@ impl CecpSession {
 
     // `undo` and `remove`: N plies back, or none.
     fn take_back(&mut self, alloc: Global, line: &[u8], plies: u8) -> Result<Text, Memory>
-        ensures { IfOk result (λ text. answered self.new text
+        ensures { IfOk result (λ text. CecpState.says self.new text
             ≡ CecpState.answer_to self.old (TextLine line.now) (CecpLines.TakeBack plies)) }
     {
         if self.game.moves().len() < usize::from(plies) {
@@ -210,7 +210,7 @@ impl CecpSession {
 
     // Answers a command.
     fn answer(&mut self, alloc: Global, line: &[u8], command: &Command) -> Result<Text, Memory>
-        ensures { IfOk result (λ text. answered self.new text
+        ensures { IfOk result (λ text. CecpState.says self.new text
             ≡ CecpState.answer_to self.old (TextLine line.now) (command_seen command.now)) }
     {
         match command {
@@ -256,7 +256,7 @@ impl CecpSession {
         next: Got,
         line: &[u8],
     ) -> Result<Text, Memory>
-        ensures { IfOk result (λ text. answered self.new text
+        ensures { IfOk result (λ text. CecpState.says self.new text
             ≡ answer_of self.old (got_line next line.now)) }
     {
         match next {

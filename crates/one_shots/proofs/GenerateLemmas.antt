@@ -1,5 +1,5 @@
 -- What `generate` says.
-use Rattle.std.proofs.Common.{◌≡◌, ◌⊎◌, ℕ, List, Option, Some, None, Ok, Err, inl, inr, refl, sym, ◌∙◌, subst, codes, ◌++◌}
+use Rattle.std.proofs.Common.{◌≡◌, ◌⊎◌, ℕ, List, Option, Some, None, Ok, Err, inl, inr, refl, sym, ◌∙◌, subst}
 use Rattle.std.specs.declared.result.Result.{Result}
 use Rattle.game_text.specs.Fault.{fault_text}
 use Rattle.game_text.specs.declared.fault.GameFault.TheVariants.{UnknownVariant, RefusedVariant}
@@ -9,12 +9,13 @@ use Rattle.variant_ini.specs.Section.{Section}
 use Rattle.variant_model.specs.declared.fault.SectionFault.{SectionFault}
 use Rattle.variant_rules.specs.Entries.{entries, found}
 use Rattle.one_shot_checks.specs.declared.no_answer.NoAnswer.{NoAnswer}
+use Rattle.one_shot_checks.specs.Fault.{error_line}
 use Rattle.one_shot_checks.specs.NoAnswerView.{Answers}
 
 module _ (name : List ℕ) (number plies : ℕ) where
   some_of : (o : Option (Result Rules SectionFault)) → (status : ℕ) × (text : List ℕ) × SaysGenerated name number plies o status text
-  some_of None = (3, codes "error " ++ (fault_text (UnknownVariant name) ++ codes "\n"), (refl, refl))
-  some_of (Some (Err why)) = (3, codes "error " ++ (fault_text (RefusedVariant why) ++ codes "\n"), (refl, refl))
+  some_of None = (3, error_line (fault_text (UnknownVariant name)), (refl, refl))
+  some_of (Some (Err why)) = (3, error_line (fault_text (RefusedVariant why)), (refl, refl))
   some_of (Some (Ok rules)) = (0, generated_text name number (generated rules number plies), (refl, refl))
 
   done_of : (o : Option (Result Rules SectionFault)) (status : ℕ) (text : List ℕ) → SaysGenerated name number plies o status text → (status ≡ 0) ⊎ (status ≡ 3)

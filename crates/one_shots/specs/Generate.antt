@@ -17,6 +17,7 @@ use Rattle.game_text.specs.GameText.{started}
 use Rattle.fen_model.specs.Printing.{fen_text}
 use Rattle.game_text.specs.GameTexts.{perft_of}
 use Rattle.game_text.specs.OutcomeText.{outcome_text}
+use Rattle.one_shot_checks.specs.Fault.{error_line}
 use Rattle.evaluation.specs.Values.{value_of}
 
 -- ---- the game
@@ -61,9 +62,9 @@ generated_text name number g =
 -- a fault of the variant, or the text
 abbrev pub SaysGenerated : List ℕ → ℕ → ℕ → Option (Result Rules SectionFault) → ℕ → List ℕ → Type 0
 SaysGenerated name number plies None status text =
-    (status ≡ 3) × (text ≡ codes "error " ++ (fault_text (UnknownVariant name) ++ codes "\n"))
+    (status ≡ 3) × (text ≡ error_line (fault_text (UnknownVariant name)))
 SaysGenerated name number plies (Some (Err fault)) status text =
-    (status ≡ 3) × (text ≡ codes "error " ++ (fault_text (RefusedVariant fault) ++ codes "\n"))
+    (status ≡ 3) × (text ≡ error_line (fault_text (RefusedVariant fault)))
 SaysGenerated name number plies (Some (Ok rules)) status text =
     (status ≡ 0) × (text ≡ generated_text name number (generated rules number plies))
 

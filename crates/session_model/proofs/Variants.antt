@@ -11,6 +11,7 @@ use Rattle.variant_model.specs.Entry.{entry}
 use Rattle.variant_model.specs.declared.fault.SectionFault.{SectionFault}
 use Rattle.variant_rules.specs.Entries.{Named, entries, entries_before, entry_of, found, has_name, named_at}
 use Rattle.session_model.proofs.Chess.{chess_accepted}
+use Rattle.session_model.specs.Begins.{rules_said}
 use Rattle.session_model.specs.CecpState as Cecp
 use Rattle.session_model.specs.Laws.{ChessIsFirst, SessionsBegin, VariantPlaces}
 use Rattle.session_model.specs.UciState as Uci
@@ -95,6 +96,6 @@ sessions_begin more threads =
     let (rules, found_is, first, is) = chess_is_first more in (
       Uci.state_by (builtin_sections ++ more) threads rules,
       Cecp.state_by (builtin_sections ++ more) rules,
-      ap (λ f. option_map (Uci.state_by (builtin_sections ++ more) threads) (Uci.rules_said f)) found_is,
-      ap (λ f. option_map (Cecp.state_by (builtin_sections ++ more)) (Cecp.rules_said f)) found_is,
+      ap (λ f. option_map (Uci.state_by (builtin_sections ++ more) threads) (rules_said f)) found_is,
+      ap (λ f. option_map (Cecp.state_by (builtin_sections ++ more)) (rules_said f)) found_is,
     )

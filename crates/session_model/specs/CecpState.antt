@@ -24,6 +24,7 @@ use Rattle.variant_rules.specs.Entries.{Named, entries, found, is_accepted}
 use Rattle.game_play.specs.Played.{Played, legal_in, longer, story}
 use Rattle.game_text.specs.GameText.{started}
 use Rattle.game_text.specs.Playing.{move_of, most_plies}
+use Rattle.session_model.specs.Begins.{rules_said}
 use Rattle.session_model.specs.CecpLines.{Command, Idle, Protover, New, Variant, Force, Go, PlayOther, UserMove, SetBoard, Ping, TakeBack, Post, St, Sd, Level, Time, Quit, BadNumber, Unknown, TooLong}
 use Rattle.io_ports.specs.Heard.{too_long}
 use Rattle.session_model.specs.Mates.{mover}
@@ -199,11 +200,6 @@ state_by sections rules = record {
   time = None;
   is_over = false;
 }
-
-abbrev pub rules_said : Option (Result Rules SectionFault) → Option Rules
-rules_said None = None
-rules_said (Some (Err fault)) = None
-rules_said (Some (Ok rules)) = Some rules
 
 unfoldable pub first_state : List Section → Option State
 first_state sections = option_map (state_by sections) (rules_said (found (entries sections) (codes "chess")))

@@ -1,3 +1,4 @@
+pub mod Begins
 pub mod CecpLines
 pub mod CecpSession
 pub mod CecpState
