@@ -182,10 +182,10 @@ needs_by (Keys moves) d is sections lines = cc
 -- ---- what a session may do
 
 spoke_asked : (owed : Owed) (words : List Text) (contents : Option Contents) (reads : List Read) (input : List Line) (readings text : List ℕ) (a : Asked) (d : Dialect) → to_do words ≡ Some a → dialect_of a.command ≡ Some d
-    → run.Spoke d a owed contents reads input readings 0 text → MaySpeak (to_do words) owed contents reads input readings 0 text
+    → run.RanSession d a owed contents reads input readings 0 text → MaySpeak (to_do words) owed contents reads input readings 0 text
 spoke_asked owed words contents reads input readings text a d is served spoke =
     subst (λ (c : Option Asked). MaySpeak c owed contents reads input readings 0 text) (sym is)
-    (subst (λ (o : Option Dialect). IsSomeAnd o (λ x. run.Spoke x a owed contents reads input readings 0 text)) (sym served) spoke)
+    (subst (λ (o : Option Dialect). IsSomeAnd o (λ x. run.RanSession x a owed contents reads input readings 0 text)) (sym served) spoke)
 
 may_asked : (owed : Owed) (words : List Text) (contents : Option Contents) (reads : List Read) (input : List Line) (readings text : List ℕ) → MaySpeak (to_do words) owed contents reads input readings 0 text
     → May owed words contents reads input readings 0 text
@@ -243,7 +243,7 @@ module _ {State : Type 0} (p : Protocol State) (start : Option State) (words : L
           allowed = may (s.lines ++ s.rest) s.allowed;
         }
 
-    part_by_session : (result : ℕ) → BrokeFrom State p start moved asked contents → run.SpokePart moved asked' contents words result
+    part_by_session : (result : ℕ) → BrokeFrom State p start moved asked contents → run.RanSessionPart moved asked' contents words result
     part_by_session result so =
         let s = so.part in
         let needs = needs_session (s.reads ++ s.further) s.lines in
@@ -280,7 +280,7 @@ did_in words a dialect.Cecp is served first accepted moved asked asked' joins co
 
 part_in : (words : List Text) (a : Asked) (d : Dialect) → to_do words ≡ Some a → dialect_of a.command ≡ Some d → (first : List Read) → Accepts a.variants first
     → (moved : Moved) (asked asked' : List Read → Type 0) → ((later : List Read) → asked later → asked' (first ++ later)) → (contents : Option Contents) (left : Option (List ℕ))
-    → (result : ℕ) → BrokeIn d (sections_in a.variants first) a.threads moved asked contents → run.SpokePart moved asked' contents words result
+    → (result : ℕ) → BrokeIn d (sections_in a.variants first) a.threads moved asked contents → run.RanSessionPart moved asked' contents words result
 part_in words a dialect.Uci is served first accepted moved asked asked' joins contents left result so =
     part_by_session uci (UciState.first_state (sections_in a.variants first) a.threads) words a dialect.Uci is served first accepted (λ o c r i t u from. from) (λ lines. refl) moved asked asked' joins contents left result so
 part_in words a dialect.Cecp is served first accepted moved asked asked' joins contents left result so =
@@ -403,7 +403,7 @@ module _ {S K C F : Type 0} {left : S → Option (List ℕ)} {taken : K → Opti
   -- nothing was written
   unsaid : (s : S) (k k' : K) (c : C) (f f' : F) (words : List Text) (a : Asked) (why : NoAnswer) (result : ℕ) → result ≡ 7 → to_do words ≡ Some a → is_session a.command ≡ true
       → Looked (Reads contents faults f f') (λ reads. Opens (to_do words) reads (Err why)) → Appends (taken k) (taken k') []
-      → run.SpokePart (Moves left taken given count last s s k k' c c) (Reads contents faults f f') (contents f) words result
+      → run.RanSessionPart (Moves left taken given count last s s k k' c c) (Reads contents faults f f') (contents f) words result
   unsaid s k k' c f f' words a why result seven_is is session looked wrote =
       let (d, served) = dialect_in a.command session in
       let (further, after, first) = reads_on (contents f) (to_do words) looked.reads (some_reads (to_do words) looked.reads why looked.holds) in
@@ -428,7 +428,7 @@ module _ {S K C F : Type 0} {left : S → Option (List ℕ)} {taken : K → Opti
   -- a front part of why it was refused
   said_part : (s : S) (k k' : K) (c : C) (f f' : F) (words : List Text) (why : NoAnswer) (answer : Answer) (result : ℕ) → result ≡ 5 → Looked (Reads contents faults f f') (λ reads. Opens (to_do words) reads (Err why))
       → OutcomeOf (Err why) (Ok answer) → AppendsFront (taken k) (taken k') answer.text
-      → run.SpokePart (Moves left taken given count last s s k k' c c) (Reads contents faults f f') (contents f) words result
+      → run.RanSessionPart (Moves left taken given count last s s k k' c c) (Reads contents faults f f') (contents f) words result
   said_part s k k' c f f' words why answer result five_is looked is wrote =
       let first = refused_first (to_do words) looked.reads why (Ok answer) answer looked.holds is refl in
       let says = refused_says (to_do words) looked.reads why (Ok answer) [] looked.holds is in
@@ -454,7 +454,7 @@ module _ {S K C F : Type 0} {left : S → Option (List ℕ)} {taken : K → Opti
   -- a run that was cut short before its session began
   pub refused_part : (s : S) (k k' : K) (c : C) (f f' : F) (words : List Text) (a : Asked) (why : NoAnswer) (before now : ℕ) (r : Result Answer Stop) (status : ℕ) → to_do words ≡ Some a → is_session a.command ≡ true
       → Looked (Reads contents faults f f') (λ reads. Opens (to_do words) reads (Err why)) → OutcomeOf (Err why) r → Finishes r (taken k) (taken k') before now status → IsCut status
-      → run.SpokePart (Moves left taken given count last s s k k' c c) (Reads contents faults f f') (contents f) words status
+      → run.RanSessionPart (Moves left taken given count last s s k k' c c) (Reads contents faults f f') (contents f) words status
   refused_part s k k' c f f' words a why before now (Ok answer) status is session looked outcome (inl wrote) cut =
       let says = refused_says (to_do words) looked.reads why (Ok answer) [] looked.holds outcome in
       absurd (done_whole status (subst IsDone (sym wrote.0) (says_done (to_do words) looked.reads [] answer.status answer.text says)) cut)

@@ -25,7 +25,7 @@ TellsInput (Some bytes) input = lines_of bytes ≡ input
 
 -- A session spoke and ended with status 0, after the first of these reads found the file of variants, where one is
 -- named. The later reads are the session's.
-pub record Spoke (dialect : Dialect) (a : Asked) (owed : Owed) (contents : Option Contents) (reads : List Read)
+pub record RanSession (dialect : Dialect) (a : Asked) (owed : Owed) (contents : Option Contents) (reads : List Read)
     (input : List Line) (readings : List ℕ) (status : ℕ) (text : List ℕ) : Type 0 where
   pub first : List Read
   pub later : List Read
@@ -38,7 +38,7 @@ pub record Spoke (dialect : Dialect) (a : Asked) (owed : Owed) (contents : Optio
 abbrev pub MaySpeak : Option Asked → Owed → Option Contents → List Read → List Line → List ℕ → ℕ → List ℕ → Type 0
 MaySpeak None owed contents reads input readings status text = ⊥
 MaySpeak (Some a) owed contents reads input readings status text =
-    IsSomeAnd (dialect_of a.command) (λ dialect. Spoke dialect a owed contents reads input readings status text)
+    IsSomeAnd (dialect_of a.command) (λ dialect. RanSession dialect a owed contents reads input readings status text)
 
 -- What a run may do: end with this status and text after these readings of the clock, where its source owes these polls
 -- and its files have these contents, if they tell them, at the start, it asked for these files, and its input has these
@@ -102,7 +102,7 @@ OpenedAt (Some a) reads = HasOpened a reads
 -- and to no more: as if the input ended after them, and with any answers to its polls. A run that is refused before its
 -- session takes no line. So where the source failed, the file of variants had been read and taken, if one is named, the
 -- session had begun, and what was written is the session's.
-pub record SpokePart (moved : List Line → List ℕ → List ℕ → Type 0) (read : List Read → Type 0)
+pub record RanSessionPart (moved : List Line → List ℕ → List ℕ → Type 0) (read : List Read → Type 0)
     (contents : Option Contents) (words : List (List ℕ)) (result : ℕ) : Type 0 where
   pub lines : List Line
   pub readings : List ℕ
@@ -133,7 +133,7 @@ PartOf (Some a) Shot Spoken = PartBy (is_session a.command) Shot Spoken
 abbrev pub DidPart : (List Line → List ℕ → List ℕ → Type 0) → (List Read → Type 0) → Option Contents → Option (List ℕ)
     → List (List ℕ) → ℕ → Type 0
 DidPart moved read contents left words result =
-    PartOf (to_do words) (ShotPart moved read contents left words) (SpokePart moved read contents words result)
+    PartOf (to_do words) (ShotPart moved read contents left words) (RanSessionPart moved read contents words result)
 
 -- ---- statuses
 
