@@ -160,7 +160,7 @@ pub fn gives_up(line: &[u8]) -> bool
 
 /// Whether the line ends a session.
 #[tactic(auto, unfolding(session_model::specs::CecpLines::command_of))]
-pub fn quits(line: &[u8]) -> bool
+pub(crate) fn quits(line: &[u8]) -> bool
     ensures { result ≡ is_quit (CecpLines.command_of (TextLine line.now)) }
 {
     match find_word(line) {

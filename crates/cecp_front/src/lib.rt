@@ -13,7 +13,7 @@ mod texts;
 mod verb;
 mod words;
 
-pub use command::{Command, Limit, gives_up, quits, read_line};
+pub use command::{Command, Limit, gives_up, read_line};
 pub use limits::{depth_for, time_for};
 pub use serving::serve;
 pub use session::CecpSession;

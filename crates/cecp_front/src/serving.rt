@@ -12,7 +12,7 @@ ghost use Rattle.session_model.specs.Turned.{Served, Unserved};
 ghost use Rattle.watching.specs.Stopping.{AreSamePorts};
 ghost use Rattle.cecp_front.specs.Reading.{NoReads};
 
-use crate::quits;
+use crate::command::quits;
 use crate::session::CecpSession;
 use io_ports::{Clock, Gate, Got, LineBuf, Ports, SearchFault, Sink, Source};
 use session_model::Ended;

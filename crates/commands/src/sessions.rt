@@ -21,7 +21,7 @@ use variant_rules::load;
 use words::Command;
 
 /// The protocol of a command that is a session.
-pub fn dialect_of(command: &Command) -> Option<Dialect>
+pub(crate) fn dialect_of(command: &Command) -> Option<Dialect>
     ensures { result ≡ sessions.dialect_of (command_seen command.now) }
 {
     match command {
@@ -32,7 +32,7 @@ pub fn dialect_of(command: &Command) -> Option<Dialect>
 }
 
 /// The status of a run whose session ended so.
-pub fn status_of(ended: Result<(), SearchFault>) -> u8
+pub(crate) fn status_of(ended: Result<(), SearchFault>) -> u8
     ensures { result ≡ ended_status ended }
 {
     match ended {
@@ -151,7 +151,7 @@ where
 /// # Errors
 ///
 /// The fault of the source or of the sink; or there was no memory.
-pub fn speak<R, S, K, F, C, G>(
+pub(crate) fn speak<R, S, K, F, C, G>(
     rt: &R,
     alloc: Global,
     dialect: Dialect,

@@ -42,7 +42,7 @@ fn keys_of<R: Wait>(
 /// # Errors
 ///
 /// The game text's first fault, or why no first moves are looked for; or the source failed, or there was no memory.
-pub fn keys_text<R: Wait, S: Source>(
+pub(crate) fn keys_text<R: Wait, S: Source>(
     rt: &R,
     alloc: Global,
     moves: u16,

@@ -7,7 +7,8 @@ ghost use Rattle.variant_rules.specs.View.{IfRules, found_view};
 ghost use Rattle.one_shot_checks.specs.NoAnswerView.{Answers, IsUnheard};
 
 use crate::no_variant::{refused_variant, unknown_variant};
-use crate::{random_game, report_of};
+use crate::random_play::random_game;
+use crate::report::report_of;
 use foundation::Text;
 use one_shot_checks::NoAnswer;
 use std::alloc::Global;
@@ -44,7 +45,7 @@ fn generate_in<R: Threads + Sync>(
 /// # Errors
 ///
 /// No variant has the name, or it is refused; or there was no memory.
-pub fn generate<R: Threads + Sync>(
+pub(crate) fn generate<R: Threads + Sync>(
     rt: &R,
     alloc: Global,
     sections: &Sections,

@@ -22,7 +22,5 @@ pub use answers::{Answer, answer_of, answer_refereed, answer_to};
 pub use game::game_in;
 pub use laws::{printed_rules_are_read_back, words_have_one_answer};
 pub use opening::{Opened, open};
-pub use random_play::random_game;
 pub use refereed::is_refereed;
-pub use report::report_of;
 pub use sections::sections_with;

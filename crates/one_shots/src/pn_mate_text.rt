@@ -43,7 +43,7 @@ fn print(alloc: Global, count: Result<Option<u16>, PnFault>) -> Result<Text, NoA
 /// # Errors
 ///
 /// The game text's first fault, or why no mate is looked for; or the source failed, or there was no memory.
-pub fn pn_mate_text<S: Source>(
+pub(crate) fn pn_mate_text<S: Source>(
     alloc: Global,
     moves: u16,
     sections: &Sections,

@@ -78,7 +78,12 @@ fn play_on(alloc: Global, game: &mut Game, generator: &mut Pcg32, plies: u16) ->
 /// # Errors
 ///
 /// `Memory`.
-pub fn random_game(alloc: Global, rules: &Rules, number: u64, plies: u16) -> Result<Game, Memory>
+pub(crate) fn random_game(
+    alloc: Global,
+    rules: &Rules,
+    number: u64,
+    plies: u16,
+) -> Result<Game, Memory>
     requires fit { IsFit rules.now }
     requires start { is_sound rules.now rules.now.start ≡ true }
     requires plies { plies ≤ MOST_PLIES }

@@ -57,7 +57,7 @@ fn value_text<R: Threads + Sync>(rt: &R, alloc: Global, game: &Game) -> Result<T
 ///
 /// `Memory`.
 #[tactic(auto, unfolding(crate::specs::Generate::generated_text))]
-pub fn report_of<R: Threads + Sync>(
+pub(crate) fn report_of<R: Threads + Sync>(
     rt: &R,
     alloc: Global,
     name: &str,

@@ -44,7 +44,11 @@ fn rules_in(
 /// # Errors
 ///
 /// No variant has the name, or it is refused; or there was no memory.
-pub fn rules_text(alloc: Global, sections: &Sections, name: &str) -> Result<Text, NoAnswer<'static>>
+pub(crate) fn rules_text(
+    alloc: Global,
+    sections: &Sections,
+    name: &str,
+) -> Result<Text, NoAnswer<'static>>
     ensures answers { Answers result (SaysRules sections.now name.now) }
     ensures reads_nothing { ¬ (IsUnheard result) }
 {

@@ -23,7 +23,7 @@ use variant_rules::load;
 /// # Errors
 ///
 /// The first fault of the input; or the source failed, or there was no memory.
-pub fn suite_text<R: Threads + Wait + Sync, S: Source, G: Gate + Sync>(
+pub(crate) fn suite_text<R: Threads + Wait + Sync, S: Source, G: Gate + Sync>(
     rt: &R,
     alloc: Global,
     sections: &Sections,

@@ -58,7 +58,7 @@ fn push_variants(alloc: Global, text: &mut Vec<u8>, variants: &Variants) -> Resu
 /// # Errors
 ///
 /// `Memory`.
-pub fn variants_of(alloc: Global, sections: &Sections) -> Result<Text, Memory>
+pub(crate) fn variants_of(alloc: Global, sections: &Sections) -> Result<Text, Memory>
     ensures { IfOk result (λ text. text ≡ variants_text (entries sections.now)) }
 {
     let variants = load(alloc, sections)?;

@@ -24,7 +24,7 @@ use watching::{Cut, say_some};
 
 /// How one depth ended.
 #[derive(Drop)]
-pub enum Depth {
+pub(crate) enum Depth {
     /// It was searched: what was found, the reading of the clock after it in milliseconds where lines have times, and
     /// the solve that was cut after its search, where one was.
     Done {
@@ -55,7 +55,7 @@ fn reading_for<C: Clock>(style: Style, clock: &mut C) -> u64
 ///
 /// The fault of the source or of the sink; or no memory. What was written until then is a front part of what
 /// may be written.
-pub fn search_depth<R: Threads + Wait + Sync, S: Source, K: Sink, C: Clock, G: Gate + Sync>(
+pub(crate) fn search_depth<R: Threads + Wait + Sync, S: Source, K: Sink, C: Clock, G: Gate + Sync>(
     rt: &R,
     alloc: Global,
     engine: &mut EngineState,

@@ -40,7 +40,7 @@ pub struct DepthResult {
 
 /// A solve within this number of moves that was cut.
 #[derive(Clone, Copy, PartialEq, Eq)]
-pub struct CutSolve {
+pub(crate) struct CutSolve {
     pub moves: u16,
     pub why: Cut,
 }
@@ -53,7 +53,7 @@ pub struct AnnouncedMate {
 }
 
 /// A repeat and its counters, of which there is at least one, as evidence.
-pub fn evidence_at(repeat: Repeat, mut counters: Counters) -> Evidence
+pub(crate) fn evidence_at(repeat: Repeat, mut counters: Counters) -> Evidence
     requires { 0 < length counters }
     ensures repeat { result.repeat ≡ repeat }
     ensures counters { counters_of (evidence_of result) ≡ counters }

@@ -26,14 +26,14 @@ use watching::{Cut, Halt};
 
 /// What is found at a depth, and the solve that was cut after its search, where one was.
 #[derive(Drop)]
-pub struct DepthJudged {
+pub(crate) struct DepthJudged {
     pub found: DepthResult,
     pub cut: Option<CutSolve>,
 }
 
 /// What a depth comes to: what is found, or a search that was cut.
 #[derive(Drop)]
-pub enum DepthSearched {
+pub(crate) enum DepthSearched {
     Found(DepthJudged),
     Off(Cut),
 }
@@ -58,7 +58,7 @@ fn settled(score: Score, best: Move, unsettled: Option<Evidence>, nodes: u64) ->
 ///
 /// The fault of the source or of the sink; or no memory. The lines that were heard until then are answered, the last
 /// one in part.
-pub fn seek_mate<R: Threads + Wait + Sync, S: Source, K: Sink, C: Clock, G: Gate + Sync>(
+pub(crate) fn seek_mate<R: Threads + Wait + Sync, S: Source, K: Sink, C: Clock, G: Gate + Sync>(
     rt: &R,
     alloc: Global,
     engine: &mut EngineState,
@@ -130,7 +130,13 @@ pub fn seek_mate<R: Threads + Wait + Sync, S: Source, K: Sink, C: Clock, G: Gate
 ///
 /// The fault of the source or of the sink; or no memory. The lines that were heard until then are answered, the last
 /// one in part.
-pub fn search_and_judge<R: Threads + Wait + Sync, S: Source, K: Sink, C: Clock, G: Gate + Sync>(
+pub(crate) fn search_and_judge<
+    R: Threads + Wait + Sync,
+    S: Source,
+    K: Sink,
+    C: Clock,
+    G: Gate + Sync,
+>(
     rt: &R,
     alloc: Global,
     engine: &mut EngineState,

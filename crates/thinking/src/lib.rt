@@ -19,14 +19,11 @@ mod style;
 mod task;
 
 pub use deepening::{Depths, iterative_deepening};
-pub use depth::{Depth, search_depth};
-pub use depth_result::{AnnouncedMate, CutSolve, DepthResult, Evidence, Score, evidence_at};
+pub use depth_result::{AnnouncedMate, DepthResult, Evidence, Score};
 pub use engine_state::EngineState;
-pub use judging::{DepthJudged, DepthSearched, search_and_judge, seek_mate};
-pub use lines::{depth_line, depth_lines, unsettled_line};
+pub use lines::{depth_lines, unsettled_line};
 pub use mates::{MateAttempt, try_mates};
-pub use scores::{favoured, mate_in, mate_sought, root_move};
 pub use search::search_once;
 pub use solve::solve_once;
 pub use style::Style;
-pub use task::{Start, Task, begin, quota_left};
+pub use task::{Start, Task, begin};

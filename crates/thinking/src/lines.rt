@@ -84,7 +84,12 @@ fn uci_score(alloc: Global, score: &Score) -> Result<String, AllocError>
 /// # Errors
 ///
 /// `Memory`.
-pub fn depth_line(alloc: Global, depth: u8, score: &Score, best: &Move) -> Result<Text, Memory>
+pub(crate) fn depth_line(
+    alloc: Global,
+    depth: u8,
+    score: &Score,
+    best: &Move,
+) -> Result<Text, Memory>
     ensures { IfOk result (λ text. text ≡ UciTexts.depth_line depth (score_seen score.now) best.now) }
 {
     let score = uci_score(alloc, score)?;

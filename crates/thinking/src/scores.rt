@@ -11,7 +11,7 @@ use strategy::Strategy;
 
 /// The number of moves of the mate that a value stands for: 31,000 or more either way, and from 1 to 100 moves.
 #[tactic(auto, unfolding(session_model::specs::Mates::mate_in))]
-pub fn mate_in(value: i32) -> Option<u16>
+pub(crate) fn mate_in(value: i32) -> Option<u16>
     ensures { result ≡ Mates.mate_in value }
 {
     let size = value.unsigned_abs();
@@ -32,7 +32,7 @@ pub fn mate_in(value: i32) -> Option<u16>
 }
 
 /// The side that a value favours, where this side is to move.
-pub fn favoured(mover: Side, value: i32) -> Side
+pub(crate) fn favoured(mover: Side, value: i32) -> Side
     ensures { result ≡ Mates.favoured mover value }
 {
     if value < 0 { mover.other() } else { mover }
@@ -40,7 +40,7 @@ pub fn favoured(mover: Side, value: i32) -> Side
 
 /// Within how many moves a mate is looked for after a depth of this value: all legal moves are root moves, and the
 /// value stands for a mate.
-pub fn mate_sought(task: &Task, value: i32) -> Option<u16>
+pub(crate) fn mate_sought(task: &Task, value: i32) -> Option<u16>
     requires task { IsTask task.now }
     ensures { (depth : ℕ) → value ≡ Thinking.value_at (task_seen task.now) depth
         → result ≡ Thinking.mate_sought (task_seen task.now) depth }
@@ -49,7 +49,7 @@ pub fn mate_sought(task: &Task, value: i32) -> Option<u16>
 }
 
 /// The move at the root of a strategy, where there is one.
-pub fn root_move(strategy: &Strategy) -> Option<Move>
+pub(crate) fn root_move(strategy: &Strategy) -> Option<Move>
     ensures { result ≡ Mates.root_move strategy.now }
 {
     let root = strategy.nodes.items.as_slice().first()?;

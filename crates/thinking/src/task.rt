@@ -48,7 +48,7 @@ pub fn begin<C: Clock>(clock: &mut C, time: Option<u64>) -> Start
 }
 
 /// What is left of the share after `entered` nodes, 0 at the least; None where there is no share.
-pub fn quota_left(share: Option<u64>, entered: u64) -> Option<u64>
+pub(crate) fn quota_left(share: Option<u64>, entered: u64) -> Option<u64>
     ensures { result ≡ option_map (λ number. number - entered) share }
 {
     match share {

@@ -8,9 +8,10 @@ ghost use Rattle.session_model.specs.Lines.{Causes, HasLine, got_line};
 ghost use Rattle.session_model.specs.Turned.{Served, Unserved};
 
 use crate::going::answer_go;
+use crate::plan::read_plan;
 use crate::reply::tell;
+use crate::session::{UciSession, bytes_of};
 use crate::without_search::answer_plain;
-use crate::{UciSession, bytes_of, read_plan};
 use io_ports::{Clock, Files, Gate, Got, LineBuf, SearchFault, Sink, Source};
 use std::alloc::Global;
 use std::sync::Wait;

@@ -7,8 +7,11 @@ ghost use Rattle.session_model.specs.Lines.{Causes};
 ghost use Rattle.uci_front.specs.Going.{ServesGo, UnservesGo};
 ghost use Rattle.uci_front.specs.PlanView.{ArePlies, IsAsked, SaidAtOnce};
 
+use crate::UciSession;
+use crate::plan::GoPlan;
 use crate::reply::tell;
-use crate::{GoPlan, GoResult, UciSession, last_line, perft_line, search};
+use crate::searching::{GoResult, search};
+use crate::texts::{last_line, perft_line};
 use foundation::{Memory, Text};
 use game_play::Game;
 use io_ports::{Clock, Dialect, Gate, Got, LineBuf, SearchFault, Sink, Source};

@@ -14,10 +14,6 @@ mod session;
 mod texts;
 mod without_search;
 
-pub use plan::{GoPlan, read_plan};
-pub use refusal::{Refusal, refused_file};
-pub use searching::{GoResult, search};
 pub use serving::serve;
-pub use session::{UciSession, bytes_of};
+pub use session::UciSession;
 pub use session_model::Ended;
-pub use texts::{READY, error_line, last_line, perft_line};

@@ -15,7 +15,7 @@ use uci_lines::{is_held, last_depth, last_mate, read_go, roots_of, share_of, tim
 
 /// What a line `go` asks of a game, so that the search no longer needs the line.
 #[derive(Drop)]
-pub struct GoPlan {
+pub(crate) struct GoPlan {
     /// The legal moves.
     pub legal: MoveList,
     /// Those that are searched.
@@ -58,7 +58,11 @@ fn mate_of(mate: Option<u64>) -> Option<u16>
 /// # Errors
 ///
 /// `Memory`.
-pub fn read_plan(alloc: Global, session: &UciSession, rest: Option<&[u8]>) -> Result<GoPlan, Memory>
+pub(crate) fn read_plan(
+    alloc: Global,
+    session: &UciSession,
+    rest: Option<&[u8]>,
+) -> Result<GoPlan, Memory>
     ensures { IfOk result (IsPlan session.now (go_of (words_said rest.entry))) }
 {
     let words = words_in(alloc, rest)?;

@@ -74,7 +74,7 @@ pub(crate) fn refused_variant(alloc: Global, fault: &SectionFault) -> Refusal
 }
 
 /// The file of variants is refused.
-pub fn refused_file(alloc: Global, fault: LoadFault) -> Refusal
+pub(crate) fn refused_file(alloc: Global, fault: LoadFault) -> Refusal
     ensures { Refuses (load_fault_text fault) result }
 {
     match format!(in alloc; "{fault}") {

@@ -26,7 +26,7 @@ use watching::{Cut, say};
 
 /// What a `go` comes to that searches.
 #[derive(Drop)]
-pub struct GoResult {
+pub(crate) struct GoResult {
     /// The best move, where one is legal.
     pub best: Option<Move>,
     /// The mate that was announced last, where one was.
@@ -235,7 +235,7 @@ fn search_mate<R: Threads + Wait + Sync, S: Source, K: Sink, C: Clock, G: Gate +
 /// # Errors
 ///
 /// The fault of the source or of the sink; or there was no memory.
-pub fn search<R: Threads + Wait + Sync, S: Source, K: Sink, C: Clock, G: Gate + Sync>(
+pub(crate) fn search<R: Threads + Wait + Sync, S: Source, K: Sink, C: Clock, G: Gate + Sync>(
     rt: &R,
     alloc: Global,
     session: &mut UciSession,

@@ -86,7 +86,7 @@ fn number_said(low: u32, high: u32, value: Option<&[u8]>) -> Option<u32>
 }
 
 /// The bytes of a text, where there is one.
-pub fn bytes_of(value: &Option<Text>) -> Option<&[u8]>
+pub(crate) fn bytes_of(value: &Option<Text>) -> Option<&[u8]>
     ensures { option_copied result ≡ value.now }
 {
     match value {
@@ -163,7 +163,7 @@ impl UciSession {
     ///
     /// No section has the name, or the variant is refused; or there was no memory. The session is what it was.
     #[tactic(auto, unfolding(session_model::specs::UciState::set_variant))]
-    pub fn set_variant(&mut self, alloc: Global, name: &[u8]) -> Result<(), Refusal>
+    pub(crate) fn set_variant(&mut self, alloc: Global, name: &[u8]) -> Result<(), Refusal>
         ensures outcome { IsOutcome (UciState.set_variant self.old self.old.sections name.now) self.new result }
         ensures refused { OnErr result (self.new ≡ self.old) }
     {
@@ -180,7 +180,7 @@ impl UciSession {
     ///
     /// As `set_variant`.
     #[tactic(auto, unfolding(session_model::specs::UciState::set_variant))]
-    pub fn load(&mut self, alloc: Global, sections: Sections) -> Result<(), Refusal>
+    pub(crate) fn load(&mut self, alloc: Global, sections: Sections) -> Result<(), Refusal>
         ensures outcome { IsOutcome (UciState.set_variant self.old sections (codes "chess")) self.new result }
         ensures refused { OnErr result (self.new ≡ self.old) }
     {
@@ -200,7 +200,7 @@ impl UciSession {
     ///
     /// The option does not take the value, or as `set_variant`. The session is what it was.
     #[tactic(auto, unfolding(session_model::specs::UciState::set))]
-    pub fn set(&mut self, alloc: Global, setting: &Setting) -> Result<(), Refusal>
+    pub(crate) fn set(&mut self, alloc: Global, setting: &Setting) -> Result<(), Refusal>
         ensures outcome { IsOutcome (UciState.set self.old (setting_seen setting.now)) self.new result }
         ensures refused { OnErr result (self.new ≡ self.old) }
     {
@@ -238,7 +238,7 @@ impl UciSession {
     ///
     /// The first fault of the FEN or of the moves, or no position is named; or there was no memory. The session is what
     /// it was.
-    pub fn place(&mut self, alloc: Global, placing: &Placing) -> Result<(), Refusal>
+    pub(crate) fn place(&mut self, alloc: Global, placing: &Placing) -> Result<(), Refusal>
         ensures outcome { IsOutcome (UciState.place self.old (placing_seen placing.now)) self.new result }
         ensures refused { OnErr result (self.new ≡ self.old) }
     {
@@ -249,7 +249,7 @@ impl UciSession {
 
     /// Begins the game of the variant again, and forgets the hints of searches. After an error the session is what it
     /// was.
-    pub fn new_game(&mut self, alloc: Global) -> Result<(), Memory>
+    pub(crate) fn new_game(&mut self, alloc: Global) -> Result<(), Memory>
         ensures begun { OnOk result (self.new ≡ UciState.new_game self.old) }
         ensures refused { OnErr result (self.new ≡ self.old) }
     {
@@ -264,7 +264,7 @@ impl UciSession {
     /// # Errors
     ///
     /// `Memory`.
-    pub fn uci_text(&self, alloc: Global) -> Result<Text, Memory>
+    pub(crate) fn uci_text(&self, alloc: Global) -> Result<Text, Memory>
         ensures { IfOk result (λ text. text ≡ UciTexts.uci_text self.now.sections) }
     {
         uci_text(alloc, &self.variants)
@@ -275,7 +275,7 @@ impl UciSession {
     /// # Errors
     ///
     /// `Memory`.
-    pub fn strategy_text(&self, alloc: Global) -> Result<Text, Memory>
+    pub(crate) fn strategy_text(&self, alloc: Global) -> Result<Text, Memory>
         ensures { IfOk result (λ text. text ≡ UciTexts.strategy_text self.now self.now.kept) }
     {
         let Some(kept) = &self.kept else {
@@ -293,14 +293,14 @@ impl UciSession {
     }
 
     /// Forgets the mate that was announced last.
-    pub fn forget_mate(&mut self)
+    pub(crate) fn forget_mate(&mut self)
         ensures { self.new ≡ forgotten self.old }
     {
         self.kept = None;
     }
 
     /// Keeps the mate that was announced last, if any.
-    pub fn keep(&mut self, kept: Option<AnnouncedMate>)
+    pub(crate) fn keep(&mut self, kept: Option<AnnouncedMate>)
         requires { IsPrintable self.old.game.rules kept }
         ensures { self.new ≡ announced self.old (announced_seen kept) }
     {
@@ -308,14 +308,14 @@ impl UciSession {
     }
 
     /// The game.
-    pub fn game(&self) -> &Game
+    pub(crate) fn game(&self) -> &Game
         ensures { result.now ≡ self.now.game }
     {
         &self.game
     }
 
     /// The number of threads.
-    pub fn threads(&self) -> u32
+    pub(crate) fn threads(&self) -> u32
         ensures is { result ≡ self.now.threads }
         ensures in_range { (LEAST_THREADS ≤ result) × (result ≤ MOST_THREADS) }
     {

@@ -27,7 +27,7 @@ use variant_rules::Variants;
 const INTRODUCTION: &[u8] = b"id name vengine\nid author vengine\n";
 
 /// What `isready` answers.
-pub const READY: &[u8] = b"readyok\n";
+pub(crate) const READY: &[u8] = b"readyok\n";
 
 /// Where a solve of `go mate` was cut.
 pub(crate) const STOPPED: &[u8] = b"info string stopped\n";
@@ -40,7 +40,7 @@ pub(crate) const NO_STRATEGY: &[u8] = b"info string no strategy\n";
 /// # Errors
 ///
 /// `Memory`.
-pub fn error_line(alloc: Global, fault: &[u8]) -> Result<Text, Memory>
+pub(crate) fn error_line(alloc: Global, fault: &[u8]) -> Result<Text, Memory>
     ensures { IfOk result (λ text. text ≡ UciTexts.error_line fault.now) }
 {
     let mut items = b"info string error ".to_vec(alloc)?;
@@ -146,7 +146,7 @@ fn introduction() -> &'static [u8]
 /// # Errors
 ///
 /// `Memory`.
-pub fn uci_text(alloc: Global, variants: &Variants) -> Result<Text, Memory>
+pub(crate) fn uci_text(alloc: Global, variants: &Variants) -> Result<Text, Memory>
     ensures { (sections : List Section) → variants.now ≡ entries sections
         → IfOk result (λ text. text ≡ UciTexts.uci_text sections) }
 {
@@ -163,7 +163,7 @@ pub fn uci_text(alloc: Global, variants: &Variants) -> Result<Text, Memory>
 ///
 /// `Memory`.
 #[tactic(auto, unfolding(session_model::specs::UciTexts::perft_line))]
-pub fn perft_line(alloc: Global, plies: u8, game: &Game) -> Result<Text, Memory>
+pub(crate) fn perft_line(alloc: Global, plies: u8, game: &Game) -> Result<Text, Memory>
     requires least { 1 ≤ plies }
     requires most { plies ≤ 9 }
     ensures { IfOk result (λ text. text ≡ UciTexts.perft_line plies game.now) }
@@ -179,7 +179,7 @@ pub fn perft_line(alloc: Global, plies: u8, game: &Game) -> Result<Text, Memory>
 /// # Errors
 ///
 /// `Memory`.
-pub fn mate_line(alloc: Global, moves: u16, best: &Move) -> Result<Text, Memory>
+pub(crate) fn mate_line(alloc: Global, moves: u16, best: &Move) -> Result<Text, Memory>
     requires some { 1 ≤ moves }
     requires few { moves ≤ MOST_MATE }
     ensures { (s : Strategy) → IfOk result
@@ -197,7 +197,7 @@ pub fn mate_line(alloc: Global, moves: u16, best: &Move) -> Result<Text, Memory>
 /// # Errors
 ///
 /// `Memory`.
-pub fn no_mate_line(alloc: Global, moves: u16) -> Result<Text, Memory>
+pub(crate) fn no_mate_line(alloc: Global, moves: u16) -> Result<Text, Memory>
     ensures { IfOk result (λ text. text ≡ UciTexts.no_mate_line moves) }
 {
     let items = format!(in alloc; "info string no mate in {moves}\n")?.into_bytes();
@@ -209,7 +209,7 @@ pub fn no_mate_line(alloc: Global, moves: u16) -> Result<Text, Memory>
 /// # Errors
 ///
 /// `Memory`.
-pub fn last_line(alloc: Global, best: Option<Move>) -> Result<Text, Memory>
+pub(crate) fn last_line(alloc: Global, best: Option<Move>) -> Result<Text, Memory>
     ensures { IfOk result (λ text. text ≡ last_line best) }
 {
     let Some(best) = best else {

@@ -9,7 +9,9 @@ ghost use Rattle.uci_front.specs.Outcomes.{LoadsFile, SetsBy};
 ghost use Rattle.uci_front.specs.Plain.{IsAtOnce, IsPlainKind, IsTold, Plainly, file_of, outcome_said};
 ghost use Rattle.uci_front.specs.PlanView.{words_said};
 
-use crate::{READY, Refusal, UciSession, error_line, refused_file};
+use crate::UciSession;
+use crate::refusal::{Refusal, refused_file};
+use crate::texts::{READY, error_line};
 use foundation::{Memory, Text};
 use game_text::{moves_of, status_of};
 use io_ports::{Dialect, Files, too_long_answer};
