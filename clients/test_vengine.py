@@ -482,6 +482,8 @@ class Hostile(Case):
     def test_words_of_commands(self):
         for words in (("N\0", "b1"), ("N", "b1\n"), ("N N", "b1"), ("", "b1"), ("N", "")):
             self.refused(self.engine.reach, *words)
+        for words in (("-", "b1"), ("-N", "b1"), ("--threads=2", "b1"), ("N", "-a"), ("N", "b1", ["-a"]), ("N", "b1", [], ["-a"])):
+            self.refused(self.engine.reach, *words)
         self.refused(self.engine.reach, "N", "b1", ["a1,a2 a3"])
         self.refused(self.engine.command, "moves", text="\ud800")
         self.refused(self.engine.command, "a\0b")

@@ -207,6 +207,13 @@ def word_of(text, what):
     return text
 
 
+def argument_of(text, what):
+    """The text, if a command can be told it as a word: one that begins with a dash is none."""
+    if word_of(text, what).startswith("-"):
+        raise BadInput(f"a command cannot be told this word for {what}: {text[:80]!r}")
+    return text
+
+
 def fen_of(text):
     """The text, if a session reads it as it stands: it would take two blanks for one, and what follows `moves` for moves."""
     if printable(text, "a FEN") != " ".join(text.split()) or "moves" in text.split(" "):
@@ -901,9 +908,7 @@ class Engine:
     def rules(self, variant, *, timeout=None):
         """The rules of a variant: each key that says something, with its value. As lines `KEY = VALUE` below a header they are a section
         without a parent, which is the same variant."""
-        name = word_of(variant, "a variant")
-        if name.startswith("-"):
-            raise BadInput(f"a command cannot be told this name: {name[:80]!r}")
+        name = argument_of(variant, "a variant")
         return dict(line.split(" = ", 1) for line in self.command("rules", name, timeout=timeout).splitlines())
 
     def keys(self, variant, fen="startpos", moves=(), *, within=1, timeout=None):
@@ -916,8 +921,8 @@ class Engine:
     def reach(self, word, square, own=(), enemy=(), *, timeout=None):
         """Where a White piece with this Betza word goes from a square of an 8 by 8 board, with pieces on other squares: the squares of its
         quiet moves, and those of enemies that it can take."""
-        lists = [",".join(word_of(one, "a square") for one in squares) or "none" for squares in (own, enemy)]
-        said = self.command("reach", word_of(word, "a Betza word"), word_of(square, "a square"), *lists, timeout=timeout)
+        lists = [",".join(argument_of(one, "a square") for one in squares) or "none" for squares in (own, enemy)]
+        said = self.command("reach", argument_of(word, "a Betza word"), argument_of(square, "a square"), *lists, timeout=timeout)
         return tuple([text for text in line.split(" ")[1:] if text != "-"] for line in said.splitlines())
 
     # ---- what users of pyffish know
