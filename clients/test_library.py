@@ -3,7 +3,8 @@
 
 Usage: clients/test_library.py [LIBRARY.a] [TEST ..]      (release/libvengine.a by default)
 
-What the library says is held to what release/vengine, or the program that VENGINE names, says. A test whose tool is missing is skipped, with a word.
+What the library says is held to what release/vengine, or the program that VENGINE names, says. A test whose tool is missing is skipped, with a word. The last
+line is 'N passed, M failed'.
 """
 import os
 import random
@@ -256,4 +257,7 @@ class ThePage(unittest.TestCase):
 
 
 if __name__ == "__main__":
-    unittest.main()
+    done = unittest.main(exit=False).result
+    failed = len(done.failures) + len(done.errors)
+    print(f"{max(0, done.testsRun - failed - len(done.skipped))} passed, {failed} failed")
+    sys.exit(1 if failed else 0)
