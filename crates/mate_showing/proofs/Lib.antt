@@ -3,6 +3,7 @@ mod Builds
 mod Shown
 mod Judged
 mod Kept
+mod Searched
 mod Walk
 mod Evidence
 pub mod Root

@@ -41,7 +41,7 @@ pub(crate) fn build<W: Watch>(
         W.ended watch.old watch.new ((n + 1) * lines_within (seen_in facts.old) n board.now.position) why }
 {
     watch.enter()?;
-    if let Some(at) = table.find(board.position(), n) {
+    if let Some(at) = table.find(board, n) {
         return Ok(at);
     }
     let attacker = facts.frame().attacker;

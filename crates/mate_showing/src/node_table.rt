@@ -3,12 +3,15 @@ ghost use Rattle.std.specs.Prelude.{◌≡◌, ◌-◌, ◌≤◌, ◌<◌, ◌+
 ghost use Rattle.std.specs.Prelude.{IfOk, OnOk, OnErr, IfSome, length, slice_get, slice_set, min};
 ghost use Rattle.mate_showing.specs.Tables as Tables;
 ghost use Rattle.mate_showing.specs.Tabled as Tabled;
+ghost use Rattle.mate_showing.specs.Keyed.{keys_of};
 ghost use Rattle.mate_settle.specs.Lines.{plies, seen_in};
+ghost use Rattle.position_key.specs.Key.{key_of};
 ghost use Rattle.rules_model.specs.Next.{with_counts};
 ghost use Rattle.rules_model.specs.Repeats as Repeats;
 ghost use Rattle.strategy.specs.declared.nodes.Node.{Node};
 
 use crate::plan::{StrategyPlan, plies_of};
+use key_index::KeyIndex;
 use mate_core::Frame;
 use playing::Board;
 use rules_model::{Memory, Position, repeats};
@@ -25,21 +28,25 @@ const HIGHEST: u32 = 9999;
 
 /// Nodes that lead to one another, each of a position that is won, and the root's first. Contracts see the frame, the
 /// plan and the nodes.
+///
+/// A node is sought among those that have the key of its repeat.
 #[derive(Drop)]
 pub(crate) struct NodeTable<'f> {
     frame: &'f Frame,
     plan: StrategyPlan,
     nodes: Vec<Node>,
+    keys: KeyIndex,
 }
 
 impl<'f> Model for NodeTable<'f> {
-    ghost use Rattle.mate_showing.specs.Tabled.{Tabled, IsKept};
+    ghost use Rattle.mate_showing.specs.Keyed.{IsKeyed};
+    ghost use Rattle.mate_showing.specs.Tabled.{Tabled};
 
     ghost Value = { Tabled };
 
     ghost view = { λ t. record { frame = t.frame.now; plan = t.plan; nodes = t.nodes.items } };
 
-    ghost invariant = { λ t. IsKept t.frame.now t.plan t.nodes.items };
+    ghost invariant = { λ t. IsKeyed t.frame.now t.plan t.nodes.items t.keys };
 }
 
 // Whether the node is the one for the position.
@@ -49,19 +56,25 @@ fn is_for(node: &Node, exact: bool, p: &Position) -> bool
     repeats(&node.position, p) && (!exact || node.position.counter == p.counter)
 }
 
-// The place of the node for the position, or else the one after all nodes.
-fn place(nodes: &[Node], exact: bool, p: &Position) -> usize
+// The place of the node for the position, or else the one after all nodes. The position has this key, and nodes of
+// other keys are not looked at.
+fn place(nodes: &[Node], keys: &KeyIndex, key: u64, exact: bool, p: &Position) -> usize
+    requires keys { keys.now ≡ keys_of nodes.now }
+    requires key { key ≡ key_of (Repeats.repeat_of p.now) }
     ensures within { result ≤ length nodes.now }
     ensures here { (v : Node) → slice_get nodes.now result ≡ Some v → Tables.is_key exact p.now v ≡ true }
     ensures before { (j : ℕ) (v : Node) → j < result → slice_get nodes.now j ≡ Some v →
         Tables.is_key exact p.now v ≡ false }
 {
-    for i in 0..nodes.len() {
+    let mut found = nodes.len();
+    let mut at = keys.last(key);
+    while let Some(i) = at {
         if is_for(&nodes[i], exact, p) {
-            return i;
+            found = i;
         }
+        at = keys.before(i);
     }
-    nodes.len()
+    found
 }
 
 // Whether there is a node at the place, of rank at most n.
@@ -76,20 +89,30 @@ fn is_made(nodes: &[Node], at: usize, n: u16) -> bool
     }
 }
 
-// Puts a node at its place, in place of an earlier one, or after all.
-fn put(nodes: &mut Vec<Node>, at: usize, node: Node) -> Result<(), Memory>
+// Puts a node of this key at its place, in place of an earlier one of the same key, or after all.
+fn put(
+    nodes: &mut Vec<Node>,
+    keys: &mut KeyIndex,
+    at: usize,
+    node: Node,
+    key: u64,
+) -> Result<(), Memory>
     requires { at ≤ length nodes.old.items }
     ensures after { OnOk result (length nodes.old.items ≡ at → nodes.new.items ≡ nodes.old.items ++ node ∷ []) }
     ensures over { OnOk result (at < length nodes.old.items → nodes.new.items ≡ slice_set nodes.old.items at node) }
+    ensures key_after { OnOk result (length nodes.old.items ≡ at → keys.new ≡ keys.old ++ key ∷ []) }
+    ensures key_over { OnOk result (at < length nodes.old.items → keys.new ≡ keys.old) }
     ensures err { OnErr result (nodes.new.items ≡ nodes.old.items) }
+    ensures keys_err { OnErr result (keys.new ≡ keys.old) }
 {
     if at < nodes.len() {
         nodes[at] = node;
-        Ok(())
-    } else {
-        nodes.push(node)?;
-        Ok(())
+        return Ok(());
     }
+    nodes.reserve(1)?;
+    keys.push(key)?;
+    nodes.push_reserved(node);
+    Ok(())
 }
 
 // The counter of the node of a position at a rank.
@@ -146,15 +169,23 @@ impl<'f> NodeTable<'f> {
             rank: UNMADE,
             edges: no_edges(alloc),
         })?;
-        Ok(NodeTable { frame, plan, nodes })
+        let mut keys = KeyIndex::new(alloc)?;
+        keys.push(board.key())?;
+        Ok(NodeTable {
+            frame,
+            plan,
+            nodes,
+            keys,
+        })
     }
 
     /// The place of the node for the position, if there is one of rank at most n.
-    pub fn find(&self, p: &Position, n: u16) -> Option<u64>
-        ensures { IfSome result (Tabled.StandsIn self.now p.now n) }
+    pub fn find(&self, board: &Board, n: u16) -> Option<u64>
+        ensures { IfSome result (Tabled.StandsIn self.now board.now.position n) }
     {
         let nodes = self.nodes.as_slice();
-        let at = place(nodes, self.plan.exact, p);
+        let key = board.key();
+        let at = place(nodes, &self.keys, key, self.plan.exact, board.position());
         if is_made(nodes, at, n) {
             Some(at as u64)
         } else {
@@ -173,8 +204,10 @@ impl<'f> NodeTable<'f> {
     {
         board.prove_ready();
         let p = board.position();
-        let at = place(self.nodes.as_slice(), self.plan.exact, p);
-        if is_made(self.nodes.as_slice(), at, n) {
+        let key = board.key();
+        let nodes = self.nodes.as_slice();
+        let at = place(nodes, &self.keys, key, self.plan.exact, p);
+        if is_made(nodes, at, n) {
             return Ok(at as u64);
         }
         let counter = counter_at(self.frame, &self.plan, p, n);
@@ -183,7 +216,7 @@ impl<'f> NodeTable<'f> {
             rank: n,
             edges,
         };
-        put(&mut self.nodes, at, node)?;
+        put(&mut self.nodes, &mut self.keys, at, node, key)?;
         Ok(at as u64)
     }
 

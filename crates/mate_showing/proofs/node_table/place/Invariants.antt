@@ -1,8 +1,8 @@
-use Rattle.std.proofs.Common.{◌≡◌, ℕ, ◌<◌, false, Some}
-use Rattle.std.specs.List.{slice_get}
-use Rattle.strategy.specs.declared.nodes.Node.{Node}
-use Rattle.mate_showing.specs.Tables.{is_key}
+use Rattle.mate_showing.proofs.Searched.{IsSought, bound}
 use Rattle.mate_showing.proofs.node_table.place.Given as goal
 
-abbrev pub invariant-loop-i : goal.invariant-loop-i
-invariant-loop-i l = (j : ℕ) (v : Node) → j < l.i → slice_get l.nodes j ≡ Some v → is_key l.exact l.p v ≡ false
+abbrev pub invariant-loop-at : goal.invariant-loop-at
+invariant-loop-at l = IsSought l.nodes l.exact l.p l.at l.found
+
+abbrev pub decreases-loop-at : goal.decreases-loop-at
+decreases-loop-at l = bound l.at
