@@ -24,7 +24,7 @@ use Rattle.watching.specs.Looks.{held}
 use Rattle.session_model.proofs.Shown.{roots_of_shown}
 use Rattle.session_model.specs.CecpSession.{Posts, bound_from, depth_for, lowered, task_of, time_for}
 use Rattle.session_model.specs.CecpState.{State}
-use Rattle.session_model.specs.Events.{clocked}
+use Rattle.session_model.specs.Events.{after_reading, clocked}
 use Rattle.session_model.specs.Mates.{Evidence, IsShown, mover, root_move}
 use Rattle.session_model.specs.Thinking.{Task, Report, Score, Points, Mates, Mated, Ending, Whole, InSearch, InSolve, Interrupted, AreReports, Deepens, IsScore, MayEnd, last_best, open_report, reported}
 use Rattle.session_model.specs.UciSession.{first_of}
@@ -124,12 +124,12 @@ module _ (t : Task) (first : Move) (more : List Move) (all : t.roots ≡ legal_i
 
 posted : (posts : Bool) (rules : Rules) (reading : ℕ) (reports : List Report) (events : List Event)
     → Tells Cecp (style_of posts) rules reading 1 reports events → Posts posts (Reads reading ∷ events) reports
-unfolding clocked
+unfolding clocked after_reading
 posted false rules reading reports events tells = tells.lines_are
-posted true rules reading reports events tells = (tells.lines_are, tells.clocks_are (Some reading))
+posted true rules reading reports events tells = (tells.lines_are, tells.clocks_are None)
 
 none_posted : (posts : Bool) → Posts posts [] []
-unfolding clocked
+unfolding clocked after_reading
 none_posted false = refl
 none_posted true = (refl, refl)
 

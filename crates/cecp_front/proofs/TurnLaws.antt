@@ -25,7 +25,7 @@ use Rattle.watching.specs.Events.{Event, heard_lines, opened, readings, written}
 use Rattle.session_model.specs.CecpLines.{command_of}
 use Rattle.session_model.specs.CecpSession.{Answers, Posts, Thinks, ThinksFrom, answer_of, bound_from, bound_of, cecp, depth_for, lowered, saying, time_for}
 use Rattle.session_model.specs.CecpState.{State, is_turn, thinks}
-use Rattle.session_model.specs.Events.{clocked}
+use Rattle.session_model.specs.Events.{after_reading, clocked}
 use Rattle.session_model.specs.Mates.{mover}
 use Rattle.session_model.specs.Thinking.{Interrupted, InSearch}
 use Rattle.session_model.specs.Lines.{HasLine, got_line, none}
@@ -121,7 +121,7 @@ some_depth state = lowered_some (if is_some (time_for state) then 64 else 4) sta
     by_time false = omega arith
 
 none_posted : (posts : Bool) → Posts posts [] []
-unfolding clocked
+unfolding clocked after_reading
 none_posted false = refl
 none_posted true = (refl, refl)
 

@@ -13,7 +13,7 @@ use Rattle.io_ports.specs.Trace.{Moves, Reads, faults_in}
 use Rattle.io_ports.proofs.Moved.{appends_none}
 use Rattle.variant_ini.specs.Section.{Section}
 use Rattle.words.specs.Asked.{Asked, asked}
-use Rattle.words.specs.Command.{Command, Uci, Xboard, Moves as MovesOf, Status, Perft, Check, SelfMate, HelpMate, CheckCert, Variants, Reach, Generate, RulesOf, Suite, PnMate, Keys}
+use Rattle.words.specs.Command.{Command, Uci, Xboard, Moves as MovesOf, Status, Checkers, Perft, Check, SelfMate, HelpMate, CheckCert, Variants, Reach, Generate, RulesOf, Help, Version, Suite, PnMate, Keys}
 use Rattle.words.specs.Options.{Text}
 use Rattle.words.specs.View.{asked_seen, command_seen}
 use Rattle.one_shots.specs.declared.answers.Answer.{Answer}
@@ -31,7 +31,7 @@ use Rattle.session_model.specs.Spoken.{Decide, IsInput}
 use Rattle.session_model.specs.Turned.{Further}
 use Rattle.variant_rules.specs.Looked.{Looked}
 use Rattle.one_shots.specs.Looked.{TellsReads}
-use Rattle.commands.specs.Run.{Completes, Did, FilesFailed, HasFileCause, May, PartBy, PartOf, ShotPart, TellsInput}
+use Rattle.commands.specs.Run.{Completes, Did, FilesFailed, HasFileCause, May, OpenedAt, PartBy, PartOf, ShotPart, TellsInput}
 use Rattle.one_shots.specs.Statuses.{IsCut, IsDone}
 use Rattle.one_shots.specs.Sessions.{is_session, to_do}
 use Rattle.one_shots.specs.Shot.{Shot, Says, SaysCommand}
@@ -70,6 +70,7 @@ pub record Answered (contents : Option Contents) (asks : List Read → Type 0) (
   pub whole : IfOk r (λ answer. all ≡ reads)
   pub first : AreFirstReads (to_do words) all
   pub heard : HeardLines left left' (lines_asked (to_do words) all) (λ lines. IfOk r (λ answer. Says (to_do words) all lines answer.status answer.text))
+  pub opened : IsUnread r → OpenedAt (to_do words) reads
 
 loaded_need : (c : Option Asked) (a : Asked) (reads : List Read) → c ≡ Some a → fault_in a.variants reads ≡ None → (lines : List Line) → lines_needed (sections_in a.variants reads) a.command lines ≤ lines_asked c reads lines
 loaded_need c a reads is none lines = subst (λ (x : Option Asked). lines_needed (sections_in a.variants reads) a.command lines ≤ lines_asked x reads lines) (sym is) (rw none (omega arith))
@@ -98,7 +99,19 @@ reached contents asks left left' words o r looked heard =
       first = subst (λ (x : Option Asked). AreFirstReads x looked.reads) (sym is) accepted.0;
       heard = heard_so _ _ _ _ _ _ here (loaded_need (to_do words) a looked.reads is accepted.1)
           (λ lines says. if_so r _ _ (λ answer said. loaded_says (to_do words) a looked.reads is accepted.1 lines answer.status answer.text said) says);
+      opened = λ unread. subst (λ (x : Option Asked). OpenedAt x looked.reads) (sym is) (record { first = looked.reads; later = []; reads_are = sym (append-nil looked.reads); accepted = accepted });
     }
+
+-- an outcome without a source is not cut short by it
+pub refused_heard : (c : Option Asked) (reads : List Read) (why : NoAnswer) (r : Result Answer Stop) → Opens c reads (Err why) → OutcomeOf (Err why) r → IsUnread r → ⊥
+refused_heard c reads why (Ok answer) opens is unread = unread
+refused_heard c reads no_answer.Usage (Err stop.Source) opens is unread = cc
+refused_heard c reads (no_answer.Fault fault) (Err stop.Source) opens is unread = cc
+refused_heard c reads (no_answer.Stop stop.Source) (Err stop.Source) opens is unread = opens
+refused_heard c reads (no_answer.Stop stop.Sink) (Err stop.Source) opens is unread = cc
+refused_heard c reads (no_answer.Stop stop.Memory) (Err stop.Source) opens is unread = cc
+refused_heard c reads why (Err stop.Sink) opens is unread = unread
+refused_heard c reads why (Err stop.Memory) opens is unread = unread
 
 -- the reads that were done, or none of them
 pub some_reads : (c : Option Asked) (reads : List Read) (why : NoAnswer) → Opens c reads (Err why) → (reads ≡ []) ⊎ AreFirstReads c reads
@@ -121,6 +134,7 @@ refused contents asks left words why (Ok answer) looked is = record {
   whole = refl;
   first = refused_first (to_do words) looked.reads why (Ok answer) answer looked.holds is refl;
   heard = heard_nothing _ _ _ (λ lines. refused_says (to_do words) looked.reads why (Ok answer) lines looked.holds is);
+  opened = λ unread. absurd unread;
 }
 refused contents asks left words why (Err cut) looked is =
     let (further, after, first) = reads_on contents (to_do words) looked.reads (some_reads (to_do words) looked.reads why looked.holds) in
@@ -134,6 +148,7 @@ refused contents asks left words why (Err cut) looked is =
       whole = tt;
       first = first;
       heard = heard_nothing _ _ _ (λ lines. tt);
+      opened = λ unread. absurd (refused_heard (to_do words) looked.reads why (Err cut) looked.holds is unread);
     }
 
 -- ---- the text of it
@@ -204,9 +219,9 @@ module _ {S K C F : Type 0} {left : S → Option (List ℕ)} {taken : K → Opti
   run_did s s' k k' c f f' owed words before now (Err stop.Memory) status answered wrote done = absurd (not_done status 7 wrote.0 seven done)
 
   -- a front part of it was
-  wrote_part : (s s' : S) (k k' : K) (c : C) (f f' : F) (words : List Text) (answer : Answer) → Answered (contents f) (Reads contents faults f f') (left s) (left s') words (Ok answer)
-      → AppendsFront (taken k) (taken k') answer.text → ShotPart (Moves left taken given count last s s' k k' c c) (Reads contents faults f f') (contents f) (left s) words
-  wrote_part s s' k k' c f f' words answer answered wrote =
+  wrote_part : (s s' : S) (k k' : K) (c : C) (f f' : F) (words : List Text) (answer : Answer) (result : ℕ) → result ≡ 5 → Answered (contents f) (Reads contents faults f f') (left s) (left s') words (Ok answer)
+      → AppendsFront (taken k) (taken k') answer.text → ShotPart (Moves left taken given count last s s' k k' c c) (Reads contents faults f f') (contents f) (left s) words result
+  wrote_part s s' k k' c f f' words answer result five_is answered wrote =
       let settled = settle (left s) (left s') _ _ answered.heard in
       let shot : (input : List Line) → Says (to_do words) answered.all input answer.status answer.text → Shot words (answered.reads ++ answered.further) input answer.status (wrote.front ++ wrote.back) =
       λ input says.
@@ -227,12 +242,13 @@ module _ {S K C F : Type 0} {left : S → Option (List ℕ)} {taken : K → Opti
         few = subst (λ (x : List Read). length answered.heard.lines ≤ lines_asked (to_do words) x (answered.heard.lines ++ settled.rest)) answered.all_are settled.few;
         decided = inr (decide_so answered.heard.lines settled.rest _ _ shot settled.decided);
         allowed = shot (answered.heard.lines ++ settled.rest) settled.holds;
+        opened = λ four_is. absurd (omega (arith, four_is, five_is));
       }
 
   -- nothing was
-  wrote_none : (s s' : S) (k k' : K) (c : C) (f f' : F) (words : List Text) (r : Result Answer Stop) → IsOneShot (to_do words) → Answered (contents f) (Reads contents faults f f') (left s) (left s') words r → Appends (taken k) (taken k') []
-      → ShotPart (Moves left taken given count last s s' k k' c c) (Reads contents faults f f') (contents f) (left s) words
-  wrote_none s s' k k' c f f' words r one answered wrote =
+  wrote_none : (s s' : S) (k k' : K) (c : C) (f f' : F) (words : List Text) (r : Result Answer Stop) (result : ℕ) → IsOneShot (to_do words) → (answered : Answered (contents f) (Reads contents faults f f') (left s) (left s') words r)
+      → Appends (taken k) (taken k') [] → (result ≡ 4 → IsUnread r) → ShotPart (Moves left taken given count last s s' k k' c c) (Reads contents faults f f') (contents f) (left s) words result
+  wrote_none s s' k k' c f f' words r result one answered wrote unread =
       let settled = settle (left s) (left s') _ _ answered.heard in
       let (status, text, says) = shot_some words answered.all (answered.heard.lines ++ settled.rest) one answered.first in
       record {
@@ -250,17 +266,18 @@ module _ {S K C F : Type 0} {left : S → Option (List ℕ)} {taken : K → Opti
         few = subst (λ (x : List Read). length answered.heard.lines ≤ lines_asked (to_do words) x (answered.heard.lines ++ settled.rest)) answered.all_are settled.few;
         decided = inl refl;
         allowed = subst (λ (x : List Read). Shot words x (answered.heard.lines ++ settled.rest) status text) answered.all_are says;
+        opened = λ four_is. answered.opened (unread four_is);
       }
 
   pub run_part : (s s' : S) (k k' : K) (c : C) (f f' : F) (words : List Text) (before now : ℕ) (r : Result Answer Stop) (status : ℕ)
       → IsOneShot (to_do words) → Answered (contents f) (Reads contents faults f f') (left s) (left s') words r → Finishes r (taken k) (taken k') before now status → IsCut status
-      → ShotPart (Moves left taken given count last s s' k k' c c) (Reads contents faults f f') (contents f) (left s) words
+      → ShotPart (Moves left taken given count last s s' k k' c c) (Reads contents faults f f') (contents f) (left s) words status
   run_part s s' k k' c f f' words before now (Ok answer) status one answered (inl wrote) cut =
       absurd (done_whole status (subst IsDone (sym wrote.0) (answer_done (contents f) (Reads contents faults f f') (left s) (left s') words answer answered)) cut)
-  run_part s s' k k' c f f' words before now (Ok answer) status one answered (inr failed) cut = wrote_part s s' k k' c f f' words answer answered failed.1
-  run_part s s' k k' c f f' words before now (Err stop.Source) status one answered wrote cut = wrote_none s s' k k' c f f' words (Err stop.Source) one answered wrote.1
-  run_part s s' k k' c f f' words before now (Err stop.Sink) status one answered wrote cut = wrote_none s s' k k' c f f' words (Err stop.Sink) one answered wrote.1
-  run_part s s' k k' c f f' words before now (Err stop.Memory) status one answered wrote cut = wrote_none s s' k k' c f f' words (Err stop.Memory) one answered wrote.1
+  run_part s s' k k' c f f' words before now (Ok answer) status one answered (inr failed) cut = wrote_part s s' k k' c f f' words answer status failed.0 answered failed.1
+  run_part s s' k k' c f f' words before now (Err stop.Source) status one answered wrote cut = wrote_none s s' k k' c f f' words (Err stop.Source) status one answered wrote.1 (λ is. tt)
+  run_part s s' k k' c f f' words before now (Err stop.Sink) status one answered wrote cut = wrote_none s s' k k' c f f' words (Err stop.Sink) status one answered wrote.1 (λ is. let five_is = wrote.0 in absurd (omega (arith, five_is, is)))
+  run_part s s' k k' c f f' words before now (Err stop.Memory) status one answered wrote cut = wrote_none s s' k k' c f f' words (Err stop.Memory) status one answered wrote.1 (λ is. let seven_is = wrote.0 in absurd (omega (arith, seven_is, is)))
 
 -- reads that found what the files tell, without a fault, are told
 pub tells_found : (contents : Option Contents) (reads reads' : List Read) → Finds contents reads → faults_in reads ≡ 0 → TellsReads contents reads' → TellsReads contents reads
@@ -273,6 +290,7 @@ session_says sections Uci is lines status text says = says
 session_says sections Xboard is lines status text says = says
 session_says sections MovesOf is lines status text says = absurd (false≢true is)
 session_says sections Status is lines status text says = absurd (false≢true is)
+session_says sections Checkers is lines status text says = absurd (false≢true is)
 session_says sections (Perft plies) is lines status text says = absurd (false≢true is)
 session_says sections Check is lines status text says = absurd (false≢true is)
 session_says sections (SelfMate moves) is lines status text says = absurd (false≢true is)
@@ -282,6 +300,8 @@ session_says sections Variants is lines status text says = absurd (false≢true 
 session_says sections (Reach word square own enemy) is lines status text says = absurd (false≢true is)
 session_says sections (Generate name number plies) is lines status text says = absurd (false≢true is)
 session_says sections (RulesOf name) is lines status text says = absurd (false≢true is)
+session_says sections Help is lines status text says = absurd (false≢true is)
+session_says sections Version is lines status text says = absurd (false≢true is)
 session_says sections Suite is lines status text says = absurd (false≢true is)
 session_says sections (PnMate moves) is lines status text says = absurd (false≢true is)
 session_says sections (Keys moves) is lines status text says = absurd (false≢true is)
@@ -398,17 +418,7 @@ not_six (Err stop.Source) sections c left left' needed old new before now status
 not_six (Err stop.Sink) sections c left left' needed old new before now status heard wrote six = let is = wrote.0 in absurd (omega (arith, is, six))
 not_six (Err stop.Memory) sections c left left' needed old new before now status heard wrote six = let is = wrote.0 in absurd (omega (arith, is, six))
 
--- an outcome without a source is not cut short by it, nor by the sink
-pub refused_heard : (c : Option Asked) (reads : List Read) (why : NoAnswer) (r : Result Answer Stop) → Opens c reads (Err why) → OutcomeOf (Err why) r → IsUnread r → ⊥
-refused_heard c reads why (Ok answer) opens is unread = unread
-refused_heard c reads no_answer.Usage (Err stop.Source) opens is unread = cc
-refused_heard c reads (no_answer.Fault fault) (Err stop.Source) opens is unread = cc
-refused_heard c reads (no_answer.Stop stop.Source) (Err stop.Source) opens is unread = opens
-refused_heard c reads (no_answer.Stop stop.Sink) (Err stop.Source) opens is unread = cc
-refused_heard c reads (no_answer.Stop stop.Memory) (Err stop.Source) opens is unread = cc
-refused_heard c reads why (Err stop.Sink) opens is unread = unread
-refused_heard c reads why (Err stop.Memory) opens is unread = unread
-
+-- nor by the sink
 pub refused_said : (c : Option Asked) (reads : List Read) (why : NoAnswer) (r : Result Answer Stop) → Opens c reads (Err why) → OutcomeOf (Err why) r → IsUnsaid r → ⊥
 refused_said c reads why (Ok answer) opens is unsaid = unsaid
 refused_said c reads why (Err stop.Source) opens is unsaid = unsaid

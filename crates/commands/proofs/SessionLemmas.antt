@@ -33,7 +33,7 @@ use Rattle.variant_ini.specs.Section.{Section}
 use Rattle.variant_model.specs.Builtin.{builtin_sections}
 use Rattle.watching.specs.Looks.{Moved}
 use Rattle.words.specs.Asked.{Asked}
-use Rattle.words.specs.Command.{Command, Uci, Xboard, Moves as MovesOf, Status, Perft, Check, SelfMate, HelpMate, CheckCert, Variants, Reach, Generate, RulesOf, Suite, PnMate, Keys}
+use Rattle.words.specs.Command.{Command, Uci, Xboard, Moves as MovesOf, Status, Checkers, Perft, Check, SelfMate, HelpMate, CheckCert, Variants, Reach, Generate, RulesOf, Help, Version, Suite, PnMate, Keys}
 use Rattle.words.specs.Options.{Text}
 use Rattle.words.specs.View.{asked_seen, command_seen}
 use Rattle.one_shots.specs.declared.answers.Answer.{Answer}
@@ -166,6 +166,7 @@ needs_by Xboard dialect.Uci is sections lines = cc
 needs_by Xboard dialect.Cecp is sections lines = refl
 needs_by MovesOf d is sections lines = cc
 needs_by Status d is sections lines = cc
+needs_by Checkers d is sections lines = cc
 needs_by (Perft plies) d is sections lines = cc
 needs_by Check d is sections lines = cc
 needs_by (SelfMate moves) d is sections lines = cc
@@ -175,6 +176,8 @@ needs_by Variants d is sections lines = cc
 needs_by (Reach word square own enemy) d is sections lines = cc
 needs_by (Generate name number plies) d is sections lines = cc
 needs_by (RulesOf name) d is sections lines = cc
+needs_by Help d is sections lines = cc
+needs_by Version d is sections lines = cc
 needs_by Suite d is sections lines = cc
 needs_by (PnMate moves) d is sections lines = cc
 needs_by (Keys moves) d is sections lines = cc

@@ -67,10 +67,22 @@ pub record Did (owed : Owed) (moved : List Line → List ℕ → List ℕ → Ty
   pub decided : Decide lines rest (λ input. May owed words contents reads input readings status text)
   pub allowed : May owed words contents reads (lines ++ rest) readings status text
 
--- A run of a one-shot command wrote a front part of the text of its answer, or nothing while the lines taken do not
--- decide it yet.
+-- the first of these reads found the file of variants that is asked for, if one is, and it was taken
+pub record HasOpened (a : Asked) (reads : List Read) : Type 0 where
+  pub first : List Read
+  pub later : List Read
+  pub reads_are : reads ≡ first ++ later
+  pub accepted : Accepts a.variants first
+
+abbrev pub OpenedAt : Option Asked → List Read → Type 0
+OpenedAt None reads = ⊥
+OpenedAt (Some a) reads = HasOpened a reads
+
+-- A run of a one-shot command that ended with this status wrote a front part of the text of its answer, or nothing while
+-- the lines taken do not decide it yet. So where the source failed, the file of variants had been read and taken, if one
+-- is named.
 pub record ShotPart (moved : List Line → List ℕ → List ℕ → Type 0) (read : List Read → Type 0)
-    (contents : Option Contents) (left : Option (List ℕ)) (words : List (List ℕ)) : Type 0 where
+    (contents : Option Contents) (left : Option (List ℕ)) (words : List (List ℕ)) (result : ℕ) : Type 0 where
   pub lines : List Line
   pub rest : List Line
   pub reads : List Read
@@ -86,17 +98,7 @@ pub record ShotPart (moved : List Line → List ℕ → List ℕ → Type 0) (re
   pub decided : (written ≡ [])
       ⊎ Decide lines rest (λ input. Shot words (reads ++ further) input status (written ++ back))
   pub allowed : Shot words (reads ++ further) (lines ++ rest) status (written ++ back)
-
--- the first of these reads found the file of variants that is asked for, if one is, and it was taken
-pub record HasOpened (a : Asked) (reads : List Read) : Type 0 where
-  pub first : List Read
-  pub later : List Read
-  pub reads_are : reads ≡ first ++ later
-  pub accepted : Accepts a.variants first
-
-abbrev pub OpenedAt : Option Asked → List Read → Type 0
-OpenedAt None reads = ⊥
-OpenedAt (Some a) reads = HasOpened a reads
+  pub opened : result ≡ 4 → OpenedAt (to_do words) reads
 
 -- A run of a session that ended with this status wrote a front part of what it may write to the lines that were taken,
 -- and to no more: as if the input ended after them, and with any answers to its polls. A run that is refused before its
@@ -133,7 +135,8 @@ PartOf (Some a) Shot Spoken = PartBy (is_session a.command) Shot Spoken
 abbrev pub DidPart : (List Line → List ℕ → List ℕ → Type 0) → (List Read → Type 0) → Option Contents → Option (List ℕ)
     → List (List ℕ) → ℕ → Type 0
 DidPart moved read contents left words result =
-    PartOf (to_do words) (ShotPart moved read contents left words) (RanSessionPart moved read contents words result)
+    PartOf (to_do words) (ShotPart moved read contents left words result)
+    (RanSessionPart moved read contents words result)
 
 -- ---- statuses
 

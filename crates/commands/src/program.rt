@@ -40,7 +40,7 @@ fn finish<K: Sink>(answer: Result<Answer, Stop>, sink: &mut K) -> u8
 /// | 0 | the command wrote its whole text, or the session came to `quit` or the end of its lines |
 /// | 2 | the words are not of the command set, and the usage line was written |
 /// | 3 | an argument, the file of variants or the input has the fault that was written as a line `error FAULT` |
-/// | 4 | the source's count of faults rose; a one-shot command wrote nothing, and a session had begun |
+/// | 4 | the source's count of faults rose, after the file of variants was taken; a one-shot command wrote nothing |
 /// | 5 | the sink's count of faults rose |
 /// | 6 | the file of variants was not read, as the line `error FileFault ..` says that was written |
 /// | 7 | there was no memory |

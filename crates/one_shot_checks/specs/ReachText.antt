@@ -1,15 +1,15 @@
 -- What `reach` prints: the squares of an 8 by 8 board that a piece reaches.
-use Rattle.std.specs.Prelude.{ℕ, List, [], ◌∷◌, ◌++◌, Option, Some, None, Bool, true, false, ◌&&◌, is_none, filter, codes}
-use Rattle.std.specs.List.{flat_map, list_any, range_with_len}
+use Rattle.std.specs.Prelude.{ℕ, List, ◌++◌, Option, Some, None, Bool, true, false, ◌&&◌, is_none, codes}
+use Rattle.std.specs.List.{list_any}
 use Rattle.rules_model.specs.declared.board.BoardSize.{BoardSize}
 use Rattle.rules_model.specs.declared.board.Cell.{Cell}
 use Rattle.rules_model.specs.declared.board.Side.{Side}
 use Rattle.rules_model.specs.declared.board.Side.TheVariants.{White, Black}
 use Rattle.rules_model.specs.declared.board.Square.{Square}
 use Rattle.rules_model.specs.declared.rules.Term.{Term}
-use Rattle.rules_model.specs.MoveText.{square_text}
 use Rattle.rules_model.specs.Squares.{cell_at}
 use Rattle.rules_model.specs.Reach.{reaches}
+use Rattle.checkers.specs.SquareList.{listed, squares_where}
 
 -- the board of the command
 abbrev pub chessboard : BoardSize
@@ -39,19 +39,6 @@ is_quiet_target cells terms from to = is_none (cell_at cells to) && reaches_quie
 -- an enemy stands on the square, and the piece reaches it by a taking term
 abbrev pub is_taking_target : List (Option Cell) → List Term → Square → ℕ → Bool
 is_taking_target cells terms from to = is_enemy (cell_at cells to) && reaches_to_take cells terms from to
-
--- the squares that pass a test, in the order of their index
-abbrev pub squares_where : (ℕ → Bool) → List ℕ
-squares_where test = filter test (range_with_len 0 120)
-
--- a square after a blank
-abbrev pub blank_square : ℕ → List ℕ
-blank_square s = 32 ∷ square_text (record { 0 = s })
-
--- squares, each after a blank, and a dash for none
-abbrev pub listed : List ℕ → List ℕ
-listed [] = codes " -"
-listed (s ∷ squares) = flat_map blank_square (s ∷ squares)
 
 -- the two lines of `reach`
 unfoldable pub reach_text : List (Option Cell) → List Term → Square → List ℕ

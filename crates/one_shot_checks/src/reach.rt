@@ -1,10 +1,10 @@
 //! What `reach` prints: where a piece can go on a board of 8 by 8 squares.
-ghost use Rattle.std.specs.Prelude.{◌≡◌, ◌++◌, IfOk, OnOk};
-ghost use Rattle.std.specs.List.{flat_map};
-ghost use Rattle.one_shot_checks.specs.ReachText.{is_enemy, reaches_quietly, reaches_to_take, is_quiet_target, is_taking_target, squares_where, blank_square, listed, reach_text};
+ghost use Rattle.std.specs.Prelude.{◌≡◌, IfOk};
+ghost use Rattle.one_shot_checks.specs.ReachText.{is_enemy, reaches_quietly, reaches_to_take, is_quiet_target, is_taking_target, reach_text};
+ghost use Rattle.checkers.specs.SquareList.{squares_where};
 
+use checkers::push_squares;
 use foundation::Text;
-use move_text::square_text;
 use rules_model::reach::reaches_plain;
 use rules_model::{BoardSize, Cell, Cells, Side, Square, Term, cell_at};
 use std::alloc::{AllocError, Global};
@@ -70,34 +70,6 @@ fn taking_targets(
         .filter(|to| is_enemy(cell_at(cells, Square(*to)))
             && reaches_to_take(cells, terms, from, *to))
         .collect(alloc)
-}
-
-// Appends a square after a blank.
-fn push_square(text: &mut Vec<u8>, square: u8) -> Result<(), AllocError>
-    ensures { OnOk result (text.new.items ≡ text.old.items ++ blank_square square) }
-{
-    text.push(b' ')?;
-    text.extend_from_slice(square_text(Square(square)).items.as_slice())
-}
-
-fn push_each(text: &mut Vec<u8>, squares: &[u8]) -> Result<(), AllocError>
-    ensures { OnOk result (text.new.items ≡ text.old.items ++ flat_map blank_square squares.now) }
-{
-    for square in squares {
-        push_square(text, *square)?;
-    }
-    Ok(())
-}
-
-// Appends the squares, or a dash where there are none.
-fn push_squares(text: &mut Vec<u8>, squares: &[u8]) -> Result<(), AllocError>
-    ensures { OnOk result (text.new.items ≡ text.old.items ++ listed squares.now) }
-{
-    if squares.is_empty() {
-        text.extend_from_slice(b" -")
-    } else {
-        push_each(text, squares)
-    }
 }
 
 /// The two lines of `reach` for a White piece with these terms on this square of a board.

@@ -23,7 +23,7 @@ use Rattle.game_text.specs.declared.fault.GameFault.{GameFault}
 use Rattle.game_text.specs.Fault as game
 use Rattle.game_text.specs.GameText.{game_of}
 use Rattle.words.specs.Asked.{Asked}
-use Rattle.words.specs.Command.{Command, Uci, Xboard, Moves, Status, Perft, Check, SelfMate, HelpMate, CheckCert, Variants, Reach, Generate, RulesOf, Suite, PnMate, Keys}
+use Rattle.words.specs.Command.{Command, Uci, Xboard, Moves, Status, Checkers, Perft, Check, SelfMate, HelpMate, CheckCert, Variants, Reach, Generate, RulesOf, Help, Version, Suite, PnMate, Keys}
 use Rattle.words.specs.Options.{Text}
 use Rattle.one_shot_checks.specs.declared.fault.Fault.{Fault}
 use Rattle.one_shot_checks.specs.declared.fault.Fault.TheVariants as fault
@@ -33,8 +33,10 @@ use Rattle.one_shots.specs.Commands.{IsOneShot, asks_input, reads_input}
 use Rattle.one_shot_checks.specs.Fault.{FaultClass, OfFile, OfInput, class_status, error_line, facts, fault_status, fault_text}
 use Rattle.one_shot_checks.specs.Setup.{unplaced_text}
 use Rattle.game_text.specs.GameTexts.{moves_of, status_of, perft_of}
+use Rattle.checkers.specs.CheckersText.{checkers_of}
 use Rattle.one_shot_checks.specs.GameTexts.{self_mate_of, help_mate_of}
 use Rattle.one_shot_checks.specs.ReachText.{reach_text}
+use Rattle.one_shots.specs.HelpText.{help_text, version_text}
 use Rattle.one_shots.specs.Looked.{TellsReads}
 use Rattle.one_shots.specs.Statuses.{IsCut, IsDone, IsUnreadable, NamesFile}
 use Rattle.one_shots.specs.Sessions.{is_session, to_do}
@@ -78,11 +80,14 @@ command_some sections Xboard input one = absurd (false≢true (sym one))
 command_some sections (Reach word square own enemy) input one = reach_some word square own enemy
 command_some sections (Generate name number plies) input one = generate_some sections name number plies
 command_some sections (RulesOf name) input one = rules_some sections name
+command_some sections Help input one = (0, help_text, (refl, refl))
+command_some sections Version input one = (0, version_text, (refl, refl))
 command_some sections Suite input one = suite_some (entries sections) input
 command_some sections (PnMate moves) input one = pn_mate_some moves (entries sections) input
 command_some sections (Keys moves) input one = keys_some moves (entries sections) input
 command_some sections Moves input one = game_some moves_of (game_of (entries sections) input)
 command_some sections Status input one = game_some status_of (game_of (entries sections) input)
+command_some sections Checkers input one = game_some checkers_of (game_of (entries sections) input)
 command_some sections (Perft plies) input one = game_some (perft_of plies) (game_of (entries sections) input)
 command_some sections Check input one = check_some (entries sections) input
 command_some sections (SelfMate moves) input one = game_some (self_mate_of moves) (game_of (entries sections) input)
@@ -135,11 +140,14 @@ command_done sections Xboard input status text says = absurd says
 command_done sections (Reach word square own enemy) input status text says = reach_done word square own enemy status text says
 command_done sections (Generate name number plies) input status text says = generate_done sections name number plies status text says
 command_done sections (RulesOf name) input status text says = rules_done sections name status text says
+command_done sections Help input status text says = inl says.0
+command_done sections Version input status text says = inl says.0
 command_done sections Suite input status text says = suite_done (entries sections) input status text says
 command_done sections (PnMate moves) input status text says = pn_mate_done moves (entries sections) input status text says
 command_done sections (Keys moves) input status text says = keys_done moves (entries sections) input status text says
 command_done sections Moves input status text says = game_done moves_of (game_of (entries sections) input) status text says
 command_done sections Status input status text says = game_done status_of (game_of (entries sections) input) status text says
+command_done sections Checkers input status text says = game_done checkers_of (game_of (entries sections) input) status text says
 command_done sections (Perft plies) input status text says = game_done (perft_of plies) (game_of (entries sections) input) status text says
 command_done sections Check input status text says = check_done (entries sections) input status text says
 command_done sections (SelfMate moves) input status text says = game_done (self_mate_of moves) (game_of (entries sections) input) status text says
@@ -240,11 +248,14 @@ command_once sections Xboard input s s' t t' says says' = absurd says
 command_once sections (Reach word square own enemy) input s s' t t' says says' = reach_once word square own enemy s s' t t' says says'
 command_once sections (Generate name number plies) input s s' t t' says says' = generate_once sections name number plies s s' t t' says says'
 command_once sections (RulesOf name) input s s' t t' says says' = rules_once sections name s s' t t' says says'
+command_once sections Help input s s' t t' says says' = (says.0 ∙ sym says'.0, says.1 ∙ sym says'.1)
+command_once sections Version input s s' t t' says says' = (says.0 ∙ sym says'.0, says.1 ∙ sym says'.1)
 command_once sections Suite input s s' t t' says says' = suite_once (entries sections) input s s' t t' says says'
 command_once sections (PnMate moves) input s s' t t' says says' = pn_mate_once moves (entries sections) input s s' t t' says says'
 command_once sections (Keys moves) input s s' t t' says says' = keys_once moves (entries sections) input s s' t t' says says'
 command_once sections Moves input s s' t t' says says' = game_once moves_of (game_of (entries sections) input) s s' t t' says says'
 command_once sections Status input s s' t t' says says' = game_once status_of (game_of (entries sections) input) s s' t t' says says'
+command_once sections Checkers input s s' t t' says says' = game_once checkers_of (game_of (entries sections) input) s s' t t' says says'
 command_once sections (Perft plies) input s s' t t' says says' = game_once (perft_of plies) (game_of (entries sections) input) s s' t t' says says'
 command_once sections Check input s s' t t' says says' = check_once (entries sections) input s s' t t' says says'
 command_once sections (SelfMate moves) input s s' t t' says says' = game_once (self_mate_of moves) (game_of (entries sections) input) s s' t t' says says'
@@ -307,6 +318,8 @@ command_without sections Xboard input input' status text reads says = absurd (fa
 command_without sections (Reach word square own enemy) input input' status text reads says = says
 command_without sections (Generate name number plies) input input' status text reads says = says
 command_without sections (RulesOf name) input input' status text reads says = says
+command_without sections Help input input' status text reads says = says
+command_without sections Version input input' status text reads says = says
 command_without sections Variants input input' status text reads says = says
 command_without sections Moves input input' status text reads says = absurd (false≢true (sym reads))
 command_without sections Check input input' status text reads says = absurd (false≢true (sym reads))
@@ -314,6 +327,7 @@ command_without sections (SelfMate moves) input input' status text reads says = 
 command_without sections (HelpMate moves) input input' status text reads says = absurd (false≢true (sym reads))
 command_without sections CheckCert input input' status text reads says = absurd (false≢true (sym reads))
 command_without sections Status input input' status text reads says = absurd (false≢true (sym reads))
+command_without sections Checkers input input' status text reads says = absurd (false≢true (sym reads))
 command_without sections (Perft plies) input input' status text reads says = absurd (false≢true (sym reads))
 command_without sections Suite input input' status text reads says = absurd (false≢true (sym reads))
 command_without sections (PnMate moves) input input' status text reads says = absurd (false≢true (sym reads))

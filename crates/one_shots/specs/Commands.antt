@@ -8,7 +8,7 @@ use Rattle.variant_rules.specs.Entries.{entries}
 use Rattle.game_text.specs.GameText.{lines_of_game}
 use Rattle.suite.specs.Suite.{lines_of_suite}
 use Rattle.words.specs.Asked.{Asked}
-use Rattle.words.specs.Command.{Command, Uci, Xboard, Moves, Status, Perft, Check, SelfMate, HelpMate, CheckCert, Variants, Reach, Generate, RulesOf, Suite, PnMate, Keys}
+use Rattle.words.specs.Command.{Command, Uci, Xboard, Moves, Status, Checkers, Perft, Check, SelfMate, HelpMate, CheckCert, Variants, Reach, Generate, RulesOf, Help, Version, Suite, PnMate, Keys}
 use Rattle.one_shot_checks.specs.declared.fault.Fault.{Fault}
 use Rattle.one_shot_checks.specs.Checking.{lines_of_check}
 use Rattle.one_shot_checks.specs.Certificates.{lines_of_cert_check}
@@ -21,6 +21,7 @@ reads_input Uci = true
 reads_input Xboard = true
 reads_input Moves = true
 reads_input Status = true
+reads_input Checkers = true
 reads_input (Perft plies) = true
 reads_input Check = true
 reads_input (SelfMate moves) = true
@@ -30,6 +31,8 @@ reads_input Variants = false
 reads_input (Reach word square own enemy) = false
 reads_input (Generate name number plies) = false
 reads_input (RulesOf name) = false
+reads_input Help = false
+reads_input Version = false
 reads_input Suite = true
 reads_input (PnMate moves) = true
 reads_input (Keys moves) = true
@@ -40,6 +43,7 @@ is_refereed Uci = false
 is_refereed Xboard = false
 is_refereed Moves = true
 is_refereed Status = true
+is_refereed Checkers = true
 is_refereed (Perft plies) = true
 is_refereed Check = true
 is_refereed (SelfMate moves) = true
@@ -49,6 +53,8 @@ is_refereed Variants = true
 is_refereed (Reach word square own enemy) = true
 is_refereed (Generate name number plies) = false
 is_refereed (RulesOf name) = true
+is_refereed Help = true
+is_refereed Version = true
 is_refereed Suite = false
 is_refereed (PnMate moves) = false
 is_refereed (Keys moves) = false
@@ -64,6 +70,7 @@ lines_needed sections Uci input = lines_wanted dialect.Uci input
 lines_needed sections Xboard input = lines_wanted dialect.Cecp input
 lines_needed sections Moves input = lines_of_game (entries sections) input
 lines_needed sections Status input = lines_of_game (entries sections) input
+lines_needed sections Checkers input = lines_of_game (entries sections) input
 lines_needed sections (Perft plies) input = lines_of_game (entries sections) input
 lines_needed sections Check input = lines_of_check (entries sections) input
 lines_needed sections (SelfMate moves) input = lines_of_game (entries sections) input
@@ -73,6 +80,8 @@ lines_needed sections Variants input = 0
 lines_needed sections (Reach word square own enemy) input = 0
 lines_needed sections (Generate name number plies) input = 0
 lines_needed sections (RulesOf name) input = 0
+lines_needed sections Help input = 0
+lines_needed sections Version input = 0
 lines_needed sections Suite input = lines_of_suite (entries sections) input
 lines_needed sections (PnMate moves) input = lines_of_game (entries sections) input
 lines_needed sections (Keys moves) input = lines_of_game (entries sections) input

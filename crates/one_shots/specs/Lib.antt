@@ -2,6 +2,7 @@ pub mod Commands
 pub mod FirstMoves
 pub mod GameView
 pub mod Generate
+pub mod HelpText
 pub mod Looked
 pub mod OpeningView
 pub mod OutcomeView

@@ -7,7 +7,7 @@ use Rattle.session_model.specs.CecpSession.{cecp}
 use Rattle.session_model.specs.Turns as turns
 use Rattle.session_model.specs.UciSession.{uci}
 use Rattle.words.specs.Asked.{Asked, asked}
-use Rattle.words.specs.Command.{Command, Uci, Xboard, Moves, Status, Perft, Check, SelfMate, HelpMate, CheckCert, Variants, Reach, Generate, RulesOf, Suite, PnMate, Keys}
+use Rattle.words.specs.Command.{Command, Uci, Xboard, Moves, Status, Checkers, Perft, Check, SelfMate, HelpMate, CheckCert, Variants, Reach, Generate, RulesOf, Help, Version, Suite, PnMate, Keys}
 
 -- the protocol of a command that is a session
 abbrev pub dialect_of : Command → Option Dialect
@@ -15,6 +15,7 @@ dialect_of Uci = Some dialect.Uci
 dialect_of Xboard = Some dialect.Cecp
 dialect_of Moves = None
 dialect_of Status = None
+dialect_of Checkers = None
 dialect_of (Perft plies) = None
 dialect_of Check = None
 dialect_of (SelfMate moves) = None
@@ -24,6 +25,8 @@ dialect_of Variants = None
 dialect_of (Reach word square own enemy) = None
 dialect_of (Generate name number plies) = None
 dialect_of (RulesOf name) = None
+dialect_of Help = None
+dialect_of Version = None
 dialect_of Suite = None
 dialect_of (PnMate moves) = None
 dialect_of (Keys moves) = None

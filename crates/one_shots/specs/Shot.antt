@@ -17,17 +17,19 @@ use Rattle.game_text.specs.Fault as game
 use Rattle.game_text.specs.GameText.{game_of}
 use Rattle.one_shots.specs.Generate.{SaysGenerate}
 use Rattle.words.specs.Asked.{Asked}
-use Rattle.words.specs.Command.{Command, Uci, Xboard, Moves, Status, Perft, Check, SelfMate, HelpMate, CheckCert, Variants, Reach, Generate, RulesOf, Suite, PnMate, Keys}
+use Rattle.words.specs.Command.{Command, Uci, Xboard, Moves, Status, Checkers, Perft, Check, SelfMate, HelpMate, CheckCert, Variants, Reach, Generate, RulesOf, Help, Version, Suite, PnMate, Keys}
 use Rattle.one_shot_checks.specs.declared.fault.Fault.{Fault}
 use Rattle.one_shot_checks.specs.Certificates.{SaysCertCheck}
 use Rattle.one_shot_checks.specs.Checking.{SaysCheck}
 use Rattle.one_shot_checks.specs.Fault.{error_line, fault_status, fault_text, usage_line}
 use Rattle.one_shot_checks.specs.Setup.{unplaced_text}
 use Rattle.game_text.specs.GameTexts.{moves_of, status_of, perft_of}
+use Rattle.checkers.specs.CheckersText.{checkers_of}
 use Rattle.one_shot_checks.specs.GameTexts.{self_mate_of, help_mate_of}
 use Rattle.one_shot_checks.specs.ReachText.{reach_text}
 use Rattle.one_shots.specs.Sessions.{to_do}
 use Rattle.one_shots.specs.FirstMoves.{SaysKeys}
+use Rattle.one_shots.specs.HelpText.{help_text, version_text}
 use Rattle.one_shots.specs.PnMates.{SaysPnMate}
 use Rattle.one_shot_checks.specs.Setup.{Unplaced, setup_of}
 use Rattle.one_shots.specs.RulesTold.{SaysRules}
@@ -62,6 +64,7 @@ SaysCommand sections Uci input status text = ⊥
 SaysCommand sections Xboard input status text = ⊥
 SaysCommand sections Moves input status text = SaysOfGame moves_of sections input status text
 SaysCommand sections Status input status text = SaysOfGame status_of sections input status text
+SaysCommand sections Checkers input status text = SaysOfGame checkers_of sections input status text
 SaysCommand sections (Perft plies) input status text = SaysOfGame (perft_of plies) sections input status text
 SaysCommand sections Check input status text = SaysCheck (entries sections) input status text
 SaysCommand sections (SelfMate moves) input status text = SaysOfGame (self_mate_of moves) sections input status text
@@ -72,6 +75,8 @@ SaysCommand sections (Reach word square own enemy) input status text = SaysReach
 SaysCommand sections (Generate name number plies) input status text =
     SaysGenerate sections name number plies status text
 SaysCommand sections (RulesOf name) input status text = SaysRules sections name status text
+SaysCommand sections Help input status text = (status ≡ 0) × (text ≡ help_text)
+SaysCommand sections Version input status text = (status ≡ 0) × (text ≡ version_text)
 SaysCommand sections Suite input status text = SaysSuite (entries sections) input status text
 SaysCommand sections (PnMate moves) input status text = SaysPnMate moves (entries sections) input status text
 SaysCommand sections (Keys moves) input status text = SaysKeys moves (entries sections) input status text

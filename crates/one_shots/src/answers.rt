@@ -71,6 +71,7 @@ fn searched_text<'a, R: Threads + Wait + Sync, S: Source, G: Gate + Sync>(
         | Command::Xboard
         | Command::Moves
         | Command::Status
+        | Command::Checkers
         | Command::Perft(_)
         | Command::Check
         | Command::SelfMate(_)
@@ -78,7 +79,9 @@ fn searched_text<'a, R: Threads + Wait + Sync, S: Source, G: Gate + Sync>(
         | Command::CheckCert
         | Command::Variants
         | Command::Reach { .. }
-        | Command::RulesOf(_) => unreachable!(),
+        | Command::RulesOf(_)
+        | Command::Help
+        | Command::Version => unreachable!(),
     }
 }
 

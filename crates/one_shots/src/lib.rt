@@ -6,6 +6,7 @@ mod answers;
 mod first_moves;
 mod game;
 mod generating;
+mod help_text;
 mod laws;
 mod no_variant;
 mod opening;

@@ -6,17 +6,21 @@ ghost use Rattle.variant_rules.specs.Entries.{entries};
 ghost use Rattle.game_text.specs.GameText.{lines_of_game};
 ghost use Rattle.game_text.specs.HeardLines.{HeardLines};
 ghost use Rattle.game_text.specs.GameTexts as print;
+ghost use Rattle.checkers.specs.CheckersText as check;
 ghost use Rattle.one_shot_checks.specs.GameTexts as stipulate;
 ghost use Rattle.one_shot_checks.specs.NoAnswerView.{Answers, IsUnheard};
 ghost use Rattle.one_shots.specs.Shot.{SaysCommand, SaysOfGame, SaysReach};
+ghost use Rattle.one_shots.specs.HelpText.{help_text, version_text};
 ghost use Rattle.one_shots.specs.VariantsText.{variants_text};
 ghost use Rattle.words.specs.View.{HasPlies, command_seen};
 
 use crate::game::game_in;
+use crate::help_text::{help_of, version_of};
 use crate::rules_text::rules_text;
 use crate::variants::variants_of;
 use betza_compile::compile;
 use betza_text::parse;
+use checkers::checkers_of;
 use foundation::Text;
 use game_text::{moves_of, perft_of, status_of};
 use io_ports::Source;
@@ -70,6 +74,20 @@ fn status<S: Source>(
 {
     let game = game_in(alloc, sections, source)?;
     Ok(status_of(alloc, &game)?)
+}
+
+// The text of `checkers`, whose input is a game text.
+fn checkers_text<S: Source>(
+    alloc: Global,
+    sections: &Sections,
+    source: &mut S,
+) -> Result<Text, NoAnswer<'static>>
+    ensures heard { HeardLines (S.left source.old) (S.left source.new) (lines_of_game (entries sections.now))
+        (λ lines. Answers result (SaysOfGame check.checkers_of sections.now lines)) }
+    ensures cause { HasCause (S.faults source.old) (S.faults source.new) (IsUnheard result) }
+{
+    let game = game_in(alloc, sections, source)?;
+    Ok(checkers_of(alloc, &game)?)
 }
 
 // The text of `perft`, whose input is a game text.
@@ -131,6 +149,22 @@ fn variants(alloc: Global, sections: &Sections) -> Result<Text, NoAnswer<'static
     Ok(variants_of(alloc, sections)?)
 }
 
+// The text of `help`.
+fn help(alloc: Global) -> Result<Text, NoAnswer<'static>>
+    ensures answers { Answers result (λ status text. (status ≡ 0) × (text ≡ help_text)) }
+    ensures reads_nothing { ¬ (IsUnheard result) }
+{
+    Ok(help_of(alloc)?)
+}
+
+// The text of `--version`.
+fn version(alloc: Global) -> Result<Text, NoAnswer<'static>>
+    ensures answers { Answers result (λ status text. (status ≡ 0) × (text ≡ version_text)) }
+    ensures reads_nothing { ¬ (IsUnheard result) }
+{
+    Ok(version_of(alloc)?)
+}
+
 /// Whether a referee answers a command: it is no session, and none of `generate`, `suite`, `pnmate` and `keys`.
 pub fn is_refereed(command: &Command) -> bool
     ensures { result ≡ is_refereed (command_seen command.now) }
@@ -144,6 +178,7 @@ pub fn is_refereed(command: &Command) -> bool
         | Command::Keys(_) => false,
         Command::Moves
         | Command::Status
+        | Command::Checkers
         | Command::Perft(_)
         | Command::Check
         | Command::SelfMate(_)
@@ -151,7 +186,9 @@ pub fn is_refereed(command: &Command) -> bool
         | Command::CheckCert
         | Command::Variants
         | Command::Reach { .. }
-        | Command::RulesOf(_) => true,
+        | Command::RulesOf(_)
+        | Command::Help
+        | Command::Version => true,
     }
 }
 
@@ -173,6 +210,7 @@ pub(crate) fn refereed_text<'a, S: Source>(
     match command {
         Command::Moves => moves(alloc, sections, source),
         Command::Status => status(alloc, sections, source),
+        Command::Checkers => checkers_text(alloc, sections, source),
         Command::Perft(plies) => perft(alloc, plies, sections, source),
         Command::Check => check_text(alloc, sections, source),
         Command::SelfMate(moves) => self_mate(alloc, moves, sections, source),
@@ -186,6 +224,8 @@ pub(crate) fn refereed_text<'a, S: Source>(
             enemy,
         } => reach(alloc, word, square, own, enemy),
         Command::RulesOf(name) => rules_text(alloc, sections, name),
+        Command::Help => help(alloc),
+        Command::Version => version(alloc),
         Command::Uci
         | Command::Xboard
         | Command::Generate { .. }

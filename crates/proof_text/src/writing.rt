@@ -201,8 +201,8 @@ fn push_section(
 
 /// Writes the lines `key = value` of the rules of a section, as a proof text of it has them after the line `rules K`:
 /// each key that has a value in the section or in one that it comes from, and each piece that it has, in byte order.
-/// Each line ends with LF. Under a header they are a variants file of the same rules: `told_rules_are_read_back` of
-/// `laws`.
+/// Each line ends with LF. Under a header they are a variants file of the same rules, where no line has more than 1,024
+/// bytes: `told_rules_are_read_back` of `laws`.
 ///
 /// # Errors
 ///

@@ -1,5 +1,6 @@
 //! Games that C holds: begun by a game text, moved on, asked and ended.
 ghost use Rattle.std.specs.Prelude.{◌≡◌, Some, None};
+ghost use Rattle.checkers.specs.CheckersText.{checkers_of};
 ghost use Rattle.game_play.specs.Played.{Played};
 ghost use Rattle.game_text.specs.GameTexts as print;
 ghost use Rattle.game_text.specs.Playing.{play};
@@ -8,6 +9,7 @@ ghost use Rattle.referee_c.specs.Written.{file_of};
 
 use crate::held::HeldGame;
 use crate::{DONE, NO_MEMORY, Reply, no_text, write};
+use checkers::checkers_of;
 use foundation::{Memory, Text};
 use game_play::Game;
 use game_text::{moves_of, status_of};
@@ -123,6 +125,20 @@ pub extern "C" fn vengine_status(alloc: Global, game: &mut HeldGame, room: &mut 
 {
     let kept = game.take(alloc);
     let text = status_of(alloc, &kept);
+    game.put(kept);
+    told(text, room)
+}
+
+/// The squares of the pieces that attack the king of the side to move, as `checkers` prints them.
+#[unsafe(no_mangle)]
+pub extern "C" fn vengine_checkers(alloc: Global, game: &mut HeldGame, room: &mut [u8]) -> Reply
+    ghost g: { Played }
+    requires open { game.old.game ≡ Some g }
+    ensures told { TellsHeld (checkers_of g) room.old room.new result }
+    ensures same { game.new.game ≡ Some g }
+{
+    let kept = game.take(alloc);
+    let text = checkers_of(alloc, &kept);
     game.put(kept);
     told(text, room)
 }

@@ -3,6 +3,7 @@
 
 ghost use Rattle.referee.specs.Refereed.{words_of};
 ghost use Rattle.referee_c.specs.Written.{Answers, HasNoText, Tells, file_of};
+ghost use Rattle.words.specs.declared.version.TheConstants.{VERSION};
 
 mod games;
 mod held;
@@ -10,6 +11,7 @@ mod parts;
 
 use referee::{Reply as Refereed, reply_to};
 use std::alloc::Global;
+use words::version::VERSION;
 
 /// The status where all was done that was asked.
 const DONE: u32 = 0;
@@ -71,4 +73,12 @@ pub extern "C" fn vengine_answer(
         Ok(Refereed::NotRefereed) => no_text(NOT_REFEREED),
         Err(_) => no_text(NO_MEMORY),
     }
+}
+
+/// The version of the library, as `1.0.0`. It is written to the front of `room`, if all of it has room there.
+#[unsafe(no_mangle)]
+pub extern "C" fn vengine_version(room: &mut [u8]) -> Reply
+    ensures { Tells 0 VERSION.now room.old room.new result }
+{
+    write(0, VERSION.as_bytes(), room)
 }

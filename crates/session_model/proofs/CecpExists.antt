@@ -12,7 +12,7 @@ use Rattle.session_model.specs.CecpSession.{cecp, answer_of, depth_for, is_given
 use Rattle.session_model.specs.CecpState.{State, played, thinks}
 use Rattle.io_ports.specs.Heard.{stops}
 use Rattle.watching.specs.Events.{Event, Hears, Says, AreUnstopped, heard_lines as heard, opened, readings, said}
-use Rattle.session_model.specs.Events.{IsStopped, clocked}
+use Rattle.session_model.specs.Events.{IsStopped, after_reading, clocked}
 use Rattle.session_model.specs.Laws.{HasOutput}
 use Rattle.session_model.specs.Thinking.{Interrupted, InSearch}
 
@@ -53,8 +53,8 @@ none_said : (lines : List Line) → said (map Hears lines) ≡ []
 none_said [] = refl
 none_said (line ∷ lines) = none_said lines
 
-none_clocked : (lines : List Line) → clocked None (map Hears lines) ≡ []
-unfolding clocked
+none_clocked : (lines : List Line) → clocked None (after_reading (map Hears lines)) ≡ []
+unfolding clocked after_reading
 none_clocked [] = refl
 none_clocked (line ∷ lines) = none_clocked lines
 

@@ -25,6 +25,7 @@ word_agrees word.Debug words = refl
 word_agrees word.Register words = refl
 word_agrees word.Moves words = refl
 word_agrees word.Status words = refl
+word_agrees word.Checkers words = refl
 word_agrees word.Strategy words = refl
 word_agrees word.Quit words = refl
 

@@ -40,6 +40,7 @@ stop_at_quit line.Stop h = cc
 stop_at_quit line.Idle h = cc
 stop_at_quit line.Moves h = cc
 stop_at_quit line.Status h = cc
+stop_at_quit line.Checkers h = cc
 stop_at_quit line.Strategy h = cc
 stop_at_quit line.TooLong h = cc
 
@@ -140,6 +141,7 @@ module _ (turn : Turn UciState.State) where
     answers line.Idle h = plain _ _ h tt
     answers line.Moves h = plain _ _ h tt
     answers line.Status h = plain _ _ h tt
+    answers line.Checkers h = plain _ _ h tt
     answers line.Strategy h = plain _ _ h tt
     answers line.Quit h = absurd h
     answers line.TooLong h = plain _ _ h tt

@@ -5,4 +5,5 @@ mod CecpLines
 mod Rows
 mod Sessions
 mod CecpThinking
+mod Constants
 mod States

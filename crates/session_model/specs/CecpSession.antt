@@ -13,7 +13,7 @@ use Rattle.session_model.specs.CecpLines.{Command, command_of, gives_up}
 use Rattle.session_model.specs.CecpState.{State, Answer, answer_to, played, thinks}
 use Rattle.session_model.specs.Deadlines.{allowance}
 use Rattle.watching.specs.Events.{Event, Says, AreUnstopped, readings, said}
-use Rattle.session_model.specs.Events.{clocked}
+use Rattle.session_model.specs.Events.{after_reading, clocked}
 use Rattle.session_model.specs.Numbers.{product_capped}
 use Rattle.session_model.specs.Thinking.{Task, Report, Score, Points, Mates, Mated, Ending, Whole, InSearch, InSolve, Cause, Interrupted, OutOfNodes, OutOfTime, Deepens, last_best, reported}
 use Rattle.session_model.specs.Turns.{Protocol, Turn}
@@ -82,12 +82,12 @@ abbrev pub first_reading : List ℕ → ℕ
 first_reading [] = 0
 first_reading (reading ∷ taken) = reading
 
--- With thinking output a line for each depth, after a reading of the clock; without it none.
+-- With thinking output a line for each depth, after a reading of the clock that is not the first; without it none.
 abbrev pub Posts : Bool → List Event → List Report → Type 0
 Posts false before reports = said before ≡ []
 Posts true before reports =
     (said before ≡ post_lines (first_reading (readings before)) 1 reports)
-    × (clocked None before ≡ map (λ report. Some report.clock) reports)
+    × (clocked None (after_reading before) ≡ map (λ report. Some report.clock) reports)
 
 -- the next line is one at which a search gives up
 abbrev pub is_given_up : List Line → Bool

@@ -17,3 +17,11 @@ clocked last (Hears line ∷ events) = clocked None events
 clocked last (Says text ∷ events) = last ∷ clocked None events
 clocked last (Reads reading ∷ events) = clocked (Some reading) events
 clocked last (Opens read ∷ events) = clocked last events
+
+-- what comes after the first reading
+unfoldable pub after_reading : List Event → List Event
+after_reading [] = []
+after_reading (Hears line ∷ events) = after_reading events
+after_reading (Says text ∷ events) = after_reading events
+after_reading (Reads reading ∷ events) = events
+after_reading (Opens read ∷ events) = after_reading events

@@ -84,6 +84,7 @@ pub data Command : Type 0 where
   Idle : Command
   Moves : Command
   Status : Command
+  Checkers : Command
   Strategy : Command
   Quit : Command
   TooLong : Command
@@ -102,6 +103,7 @@ command_named word.Debug words = Idle
 command_named word.Register words = Idle
 command_named word.Moves words = Moves
 command_named word.Status words = Status
+command_named word.Checkers words = Checkers
 command_named word.Strategy words = Strategy
 command_named word.Quit words = Quit
 

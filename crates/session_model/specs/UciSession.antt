@@ -10,6 +10,7 @@ use Rattle.evaluation.specs.Bounds.{depths_bound, mates_bound, solve_bound}
 use Rattle.io_ports.specs.Heard.{too_long}
 use Rattle.watching.specs.Events.{Event, Says, Opens, AreUnstopped, readings, said}
 use Rattle.session_model.specs.Events.{IsStopped}
+use Rattle.checkers.specs.CheckersText.{checkers_of}
 use Rattle.game_text.specs.GameTexts.{moves_of, status_of}
 use Rattle.session_model.specs.Mates.{Announced, Evidence, HasNoShorter, IsEvidence, IsShown, mover, root_move}
 use Rattle.session_model.specs.Thinking.{Task, Report, Ending, Cause, Mates, Deepens, MayCut, last_announced, last_best, reported}
@@ -187,6 +188,7 @@ Answers Interrupts state turn following line.Stop = IsPlain turn state []
 Answers Interrupts state turn following line.Idle = IsPlain turn state []
 Answers Interrupts state turn following line.Moves = JustSays turn state (moves_of state.game)
 Answers Interrupts state turn following line.Status = JustSays turn state (status_of state.game)
+Answers Interrupts state turn following line.Checkers = JustSays turn state (checkers_of state.game)
 Answers Interrupts state turn following line.Strategy = JustSays turn state (strategy_text state state.kept)
 Answers Interrupts state turn following line.Quit = ⊥
 Answers Interrupts state turn following line.TooLong = JustSays turn state (too_long Uci)

@@ -111,10 +111,11 @@ fn lines_set_and_answer(rt: HostRuntime) {
         "\nwhat is this\nnow isready\ndebug on\nregister later\nstop\nponderhit\nquit now\nuci\n";
     let answers = "readyok\n";
     says(&rt, never, lines, answers);
-    let lines = "position fen k7/8/8/8/8/8/1q6/K7 w - - 0 1\nmoves\nstrategy\n\
-                position startpos moves f2f3 e7e5 g2g4 d8h4\nstatus\nmoves\ngo depth 1\nquit\n";
-    let answers = "a1b2\nmoves 1\ninfo string no strategy\nwon black checkmate\n\
-                rnb1kbnr/pppp1ppp/8/4p3/6Pq/5P2/PPPPP2P/RNBQKBNR w KQkq - 1 3\nmoves 0\nbestmove (none)\n";
+    let lines = "checkers\nposition fen k7/8/8/8/8/8/1q6/K7 w - - 0 1\ncheckers\nmoves\nstrategy\n\
+                position startpos moves f2f3 e7e5 g2g4 d8h4\nstatus\ncheckers\nmoves\ngo depth 1\nquit\n";
+    let answers =
+        "checkers -\ncheckers b2\na1b2\nmoves 1\ninfo string no strategy\nwon black checkmate\n\
+                rnb1kbnr/pppp1ppp/8/4p3/6Pq/5P2/PPPPP2P/RNBQKBNR w KQkq - 1 3\ncheckers h4\nmoves 0\nbestmove (none)\n";
     says(&rt, never, lines, answers);
     let lines = "go perft 2\nposition startpos moves e2e4\ngo perft 1\nucinewgame\nstatus\nquit\n";
     let answers = "info string perft 2 400\ninfo string perft 1 20\nongoing\n\

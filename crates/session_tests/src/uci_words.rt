@@ -80,6 +80,7 @@ fn other_commands(rt: HostRuntime) {
     expect(&rt, alloc, "register later", CommandKind::Idle, "later");
     expect(&rt, alloc, "moves status", CommandKind::Moves, "status");
     expect(&rt, alloc, "status", CommandKind::Status, "");
+    expect(&rt, alloc, "checkers", CommandKind::Checkers, "");
     expect(&rt, alloc, "strategy", CommandKind::Strategy, "");
     expect(&rt, alloc, "x quit y", CommandKind::Quit, "y");
     expect(&rt, alloc, "QUIT", CommandKind::Idle, "");

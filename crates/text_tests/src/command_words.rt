@@ -24,6 +24,7 @@ fn tell_command(told: &mut Vec<u8>, command: &Command) -> io::Result<()> {
         Command::Xboard => write!(told, "Xboard"),
         Command::Moves => write!(told, "Moves"),
         Command::Status => write!(told, "Status"),
+        Command::Checkers => write!(told, "Checkers"),
         Command::Perft(plies) => write!(told, "Perft {plies}"),
         Command::Check => write!(told, "Check"),
         Command::SelfMate(moves) => write!(told, "SelfMate {moves}"),
@@ -45,6 +46,8 @@ fn tell_command(told: &mut Vec<u8>, command: &Command) -> io::Result<()> {
             plies,
         } => write!(told, "Generate {name}|{number}|{plies}"),
         Command::RulesOf(name) => write!(told, "RulesOf {name}"),
+        Command::Help => write!(told, "Help"),
+        Command::Version => write!(told, "Version"),
     }
 }
 
@@ -72,7 +75,7 @@ fn commands_are_read(rt: HostRuntime) {
     let lines =
         "\nuci\nxboard\nmoves\nstatus\nperft|1\nperft|00000000000000000009\ncheck\nstipulate|self|1\n\
         stipulate|help|06\nstipulate|check\nvariants\nsuite\npnmate|100\nkeys|020\nreach|N|b1\nreach|||\n\
-        reach|N|b1|a1,a2|c3\ngenerate|chess|18446744073709551615|08192\nrules|xiangqi";
+        reach|N|b1|a1,a2|c3\ngenerate|chess|18446744073709551615|08192\nrules|xiangqi\ncheckers\nhelp";
     let told = answers(&rt, rt.alloc(), lines);
     let wanted = b"\
         None 1 Uci\n\
@@ -94,7 +97,9 @@ fn commands_are_read(rt: HostRuntime) {
         None 1 Reach |||none\n\
         None 1 Reach N|b1|a1,a2|c3\n\
         None 1 Generate chess|18446744073709551615|8192\n\
-        None 1 RulesOf xiangqi\n";
+        None 1 RulesOf xiangqi\n\
+        None 1 Checkers\n\
+        None 1 Help\n";
     expect(&rt, told.as_slice() == wanted.as_slice());
 }
 
@@ -119,6 +124,18 @@ fn options_are_read(rt: HostRuntime) {
     expect(&rt, told.as_slice() == wanted.as_bytes());
 }
 
+#[test]
+fn two_words_with_dashes_stand_alone(rt: HostRuntime) {
+    let lines =
+        "--help\n--version\n--help|help\n--version|--help\nhelp|--help\n--threads|2|--version\n\
+        --Help\n--help=\nhelp|moves\nversion\ncheckers|chess\n--threads|2|help";
+    let told = answers(&rt, rt.alloc(), lines);
+    expect(
+        &rt,
+        told.as_slice() == b"None 1 Help\nNone 1 Version\nNone 2 Help\n".as_slice(),
+    );
+}
+
 // The last line of each text asks something.
 #[test]
 fn other_words_ask_nothing(rt: HostRuntime) {
@@ -129,7 +146,7 @@ fn other_words_ask_nothing(rt: HostRuntime) {
         perft|10\nperft|000000000000000000004\nxboard|1\nperft|4";
     let told = answers(&rt, rt.alloc(), commands);
     expect(&rt, told.as_slice() == b"None 1 Perft 4\n".as_slice());
-    let options = "--help\n--\n--|moves\n-threads|4|moves\n--=4|moves\n--threads\n\
+    let options = "--\n--|moves\n-threads|4|moves\n--=4|moves\n--threads\n\
         --threads|4|--threads|4|moves\n--variants|a|--variants=a|moves\n--threads=|moves\n--variants=|moves\n\
         --variants|-f|moves\n--variants|--threads|4|moves\n--threads|0|moves\n--threads|65|moves\n\
         --threads|000000000000000000007|moves\n--threads|18446744073709551616|moves\n--threads|٤|moves\n\

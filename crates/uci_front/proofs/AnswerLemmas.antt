@@ -55,6 +55,7 @@ quit_is kind.Stop words = refl
 quit_is kind.Idle words = refl
 quit_is kind.Moves words = refl
 quit_is kind.Status words = refl
+quit_is kind.Checkers words = refl
 quit_is kind.Strategy words = refl
 quit_is kind.Quit words = refl
 quit_is kind.TooLong words = refl

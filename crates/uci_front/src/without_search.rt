@@ -12,6 +12,7 @@ ghost use Rattle.uci_front.specs.PlanView.{words_said};
 use crate::UciSession;
 use crate::refusal::{Refusal, refused_file};
 use crate::texts::{READY, error_line};
+use checkers::checkers_of;
 use foundation::{Memory, Text};
 use game_text::{moves_of, status_of};
 use io_ports::{Dialect, Files, too_long_answer};
@@ -137,6 +138,7 @@ fn answer_at_once(
         CommandKind::Stop | CommandKind::Idle => Ok(None),
         CommandKind::Moves => Ok(Some(moves_of(alloc, session.game())?)),
         CommandKind::Status => Ok(Some(status_of(alloc, session.game())?)),
+        CommandKind::Checkers => Ok(Some(checkers_of(alloc, session.game())?)),
         CommandKind::Strategy => Ok(Some(session.strategy_text(alloc)?)),
         CommandKind::TooLong => Ok(Some(copy_of(alloc, too_long_answer(Dialect::Uci))?)),
         CommandKind::SetOption | CommandKind::Go | CommandKind::Quit => unreachable!(),

@@ -40,6 +40,7 @@ kind_commands word.Debug words = refl
 kind_commands word.Register words = refl
 kind_commands word.Moves words = refl
 kind_commands word.Status words = refl
+kind_commands word.Checkers words = refl
 kind_commands word.Strategy words = refl
 kind_commands word.Quit words = refl
 

@@ -38,6 +38,7 @@ kind_named word.Debug = kind.Idle
 kind_named word.Register = kind.Idle
 kind_named word.Moves = kind.Moves
 kind_named word.Status = kind.Status
+kind_named word.Checkers = kind.Checkers
 kind_named word.Strategy = kind.Strategy
 kind_named word.Quit = kind.Quit
 
@@ -53,6 +54,7 @@ command_with kind.Stop words = UciLines.Stop
 command_with kind.Idle words = UciLines.Idle
 command_with kind.Moves words = UciLines.Moves
 command_with kind.Status words = UciLines.Status
+command_with kind.Checkers words = UciLines.Checkers
 command_with kind.Strategy words = UciLines.Strategy
 command_with kind.Quit words = UciLines.Quit
 command_with kind.TooLong words = UciLines.TooLong

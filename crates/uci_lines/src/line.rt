@@ -24,6 +24,7 @@ pub enum CommandKind {
     Idle,
     Moves,
     Status,
+    Checkers,
     Strategy,
     Quit,
     /// The line is longer than a line may be.
@@ -46,6 +47,7 @@ fn kind_named(word: UciWord) -> CommandKind
         UciWord::Register => CommandKind::Idle,
         UciWord::Moves => CommandKind::Moves,
         UciWord::Status => CommandKind::Status,
+        UciWord::Checkers => CommandKind::Checkers,
         UciWord::Strategy => CommandKind::Strategy,
         UciWord::Quit => CommandKind::Quit,
     }

@@ -16,7 +16,7 @@ use Rattle.clap.specs.declared.error.kind.ErrorKind.{ErrorKind}
 use Rattle.clap.specs.declared.parser.matches.Found.{Found}
 use Rattle.clap.specs.declared.builder.value_parser.Reading.{Reading}
 use Rattle.clap.proofs.WalkLemmas.{both, first_value-rows, raw_values-rows}
-use Rattle.words.specs.Asked.{Asked, asked, asked_by, asked_cut, asked_of, are_sound, is_sound}
+use Rattle.words.specs.Asked.{Asked, asked_after, asked_by, asked_cut, asked_of, are_sound, is_sound}
 use Rattle.words.specs.Options.{Cut, Text, OptionName, Variants, Threads, Given, cut_from, has_no_dash, is_given, is_stray, on_option, option_named, on_value, on_word, same_name, text_of, value_of}
 use Rattle.words.specs.Reader.{reader}
 use Rattle.words.specs.View.{texts}
@@ -108,12 +108,12 @@ cut_asked None = refl
 cut_asked (Some cut) = ends cut.0 cut.1
 
 module _ (words : List Text) (stray : list_any is_stray words ≡ false) (fits : length words ≤ usize_max) where
-  all_read : final (reads (at idle [] None) words) ≡ asked words
+  all_read : final (reads (at idle [] None) words) ≡ asked_after words
   all_read = ap final (reads_cut None [] words stray fits [] None (record { passes = refl; now = refl; other = refl })) ∙ cut_asked (cut_from None [] words)
 
   -- where the parse finds something, that is what the words ask
   pub parse_asked : (a : App) (m : Found) → a ≡ reader → fault_of a words ≡ [] → rows_of m ≡ matches_of a words
-      → asked_by (first_value m (codes "variants")) (first_value m (codes "threads")) (unwrap_or (option_map raw_values (matched_of m (codes "words"))) []) ≡ asked words
+      → asked_by (first_value m (codes "variants")) (first_value m (codes "threads")) (unwrap_or (option_map raw_values (matched_of m (codes "words"))) []) ≡ asked_after words
   parse_asked a m is none found =
       ap₂ (λ (v t : Option Text). asked_by v t (unwrap_or (option_map raw_values (matched_of m (codes "words"))) [])) (first_value-rows m (codes "variants")) (first_value-rows m (codes "threads"))
       ∙ ap (λ ws. asked_by (first_of (codes "variants") (rows_of m)) (first_of (codes "threads") (rows_of m)) (unwrap_or ws [])) (raw_values-rows m (codes "words"))
@@ -121,7 +121,7 @@ module _ (words : List Text) (stray : list_any is_stray words ≡ false) (fits :
       ∙ ap final (sym (read_found words (ap (λ x. fault_of x words) (sym is) ∙ none))) ∙ all_read
 
   -- where the parse fails, the words ask nothing
-  pub parse_fails : (a : App) (k : ErrorKind) (ks : Kinds) → a ≡ reader → fault_of a words ≡ k ∷ ks → None ≡ asked words
+  pub parse_fails : (a : App) (k : ErrorKind) (ks : Kinds) → a ≡ reader → fault_of a words ≡ k ∷ ks → None ≡ asked_after words
   parse_fails a k ks is fails = ap final (sym (read_none words k ks (ap (λ x. fault_of x words) (sym is) ∙ fails))) ∙ all_read
 
 -- ---- words that begin with a dash

@@ -1,7 +1,7 @@
 -- What the words of a run ask: options first, and then a command with its arguments.
 use Rattle.std.specs.Prelude.{ℕ, List, [], Option, Some, None, Bool, true, ◌&&◌, if◌then◌else◌}
 use Rattle.std.specs.List.{list_all}
-use Rattle.words.specs.Command.{Command, command_in}
+use Rattle.words.specs.Command.{Command, command_in, flag_in}
 use Rattle.words.specs.Number.{number_in}
 use Rattle.words.specs.Options.{Text, Variants, Threads, Given, Cut, cut_from, has_no_dash, is_value, value_of}
 
@@ -46,6 +46,22 @@ abbrev pub asked_cut : Cut → Option Asked
 asked_cut None = None
 asked_cut (Some cut) = asked_of cut.0 cut.1
 
+-- what options and the words after them ask
+abbrev pub asked_after : List Text → Option Asked
+asked_after words = asked_cut (cut_from None [] words)
+
+-- one thread, and no file of variants
+abbrev pub asked_alone : Command → Asked
+asked_alone command = record {
+  variants = None;
+  threads = 1;
+  command = command;
+}
+
+abbrev pub asked_or : Option Command → List Text → Option Asked
+asked_or None words = asked_after words
+asked_or (Some command) words = Some (asked_alone command)
+
 -- what the words ask, where they are of the command set
 abbrev pub asked : List Text → Option Asked
-asked words = asked_cut (cut_from None [] words)
+asked words = asked_or (flag_in words) words

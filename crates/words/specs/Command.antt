@@ -14,6 +14,8 @@ pub data Command : Type 0 where
   Moves : Command
   -- `status`
   Status : Command
+  -- `checkers`
+  Checkers : Command
   -- `perft N`: a number of plies
   Perft : ℕ → Command
   -- `check`
@@ -38,6 +40,10 @@ pub data Command : Type 0 where
   Generate : Text → ℕ → ℕ → Command
   -- `rules NAME`: a variant
   RulesOf : Text → Command
+  -- `help`
+  Help : Command
+  -- `--version`
+  Version : Command
 
 -- the list of no square
 abbrev pub no_squares : Text
@@ -121,6 +127,7 @@ command_named name arguments =
     else (if bytes_eq name (codes "xboard") then without_arguments Xboard arguments
     else (if bytes_eq name (codes "moves") then without_arguments Moves arguments
     else (if bytes_eq name (codes "status") then without_arguments Status arguments
+    else (if bytes_eq name (codes "checkers") then without_arguments Checkers arguments
     else (if bytes_eq name (codes "perft") then perft_in arguments
     else (if bytes_eq name (codes "check") then without_arguments Check arguments
     else (if bytes_eq name (codes "stipulate") then stipulate_in arguments
@@ -130,9 +137,21 @@ command_named name arguments =
     else (if bytes_eq name (codes "suite") then without_arguments Suite arguments
     else (if bytes_eq name (codes "pnmate") then pn_mate_in arguments
     else (if bytes_eq name (codes "rules") then rules_in arguments
-    else (if bytes_eq name (codes "keys") then keys_in arguments else None)))))))))))))
+    else (if bytes_eq name (codes "keys") then keys_in arguments
+    else (if bytes_eq name (codes "help") then without_arguments Help arguments else None)))))))))))))))
 
 -- the command that words without options are; that of no words is the session of `uci`
 abbrev pub command_in : List Text → Option Command
 command_in [] = Some Uci
 command_in (name ∷ arguments) = command_named name arguments
+
+-- the command of a word that begins with two dashes and is no option
+abbrev pub flag_of : Text → Option Command
+flag_of word =
+    if bytes_eq word (codes "--help") then Some Help
+    else (if bytes_eq word (codes "--version") then Some Version else None)
+
+-- such a word is the only one
+abbrev pub flag_in : List Text → Option Command
+flag_in (word ∷ []) = flag_of word
+flag_in words = None

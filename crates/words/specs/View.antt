@@ -5,7 +5,7 @@ use Rattle.words.specs.declared.command.Command.{Command as Given}
 use Rattle.words.specs.declared.command.Command.TheVariants as given
 use Rattle.words.specs.declared.reading.Asked.{Asked as GivenAsked}
 use Rattle.words.specs.Asked.{Asked}
-use Rattle.words.specs.Command.{Command, Uci, Xboard, Moves, Status, Perft, Check, SelfMate, HelpMate, CheckCert, Variants, Reach, Generate, RulesOf, Suite, PnMate, Keys}
+use Rattle.words.specs.Command.{Command, Uci, Xboard, Moves, Status, Checkers, Perft, Check, SelfMate, HelpMate, CheckCert, Variants, Reach, Generate, RulesOf, Help, Version, Suite, PnMate, Keys}
 use Rattle.words.specs.Options.{Text}
 
 -- the text that is referred to, where there is one, and the texts
@@ -20,6 +20,7 @@ command_seen given.Uci = Uci
 command_seen given.Xboard = Xboard
 command_seen given.Moves = Moves
 command_seen given.Status = Status
+command_seen given.Checkers = Checkers
 command_seen (given.Perft plies) = Perft plies
 command_seen given.Check = Check
 command_seen (given.SelfMate moves) = SelfMate moves
@@ -32,6 +33,8 @@ command_seen (given.Keys moves) = Keys moves
 command_seen (given.Reach word square own enemy) = Reach word.now square.now own.now enemy.now
 command_seen (given.Generate name number plies) = Generate name.now number plies
 command_seen (given.RulesOf name) = RulesOf name.now
+command_seen given.Help = Help
+command_seen given.Version = Version
 
 abbrev pub asked_seen : GivenAsked → Asked
 asked_seen a = record {
@@ -47,6 +50,7 @@ HasPlies given.Uci = ⊤
 HasPlies given.Xboard = ⊤
 HasPlies given.Moves = ⊤
 HasPlies given.Status = ⊤
+HasPlies given.Checkers = ⊤
 HasPlies (given.Perft plies) = (1 ≤ plies) × (plies ≤ 9)
 HasPlies given.Check = ⊤
 HasPlies (given.SelfMate moves) = (1 ≤ moves) × (moves ≤ 6)
@@ -59,3 +63,5 @@ HasPlies (given.Keys moves) = (1 ≤ moves) × (moves ≤ 20)
 HasPlies (given.Reach word square own enemy) = ⊤
 HasPlies (given.Generate name number plies) = plies ≤ 8192
 HasPlies (given.RulesOf name) = ⊤
+HasPlies given.Help = ⊤
+HasPlies given.Version = ⊤

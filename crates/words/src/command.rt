@@ -1,9 +1,9 @@
 //! The commands, by their names and arguments.
-ghost use Rattle.std.specs.Prelude.{◌≡◌, ◌-◌, ◌^◌, IfSome, option_map};
+ghost use Rattle.std.specs.Prelude.{◌≡◌, ◌-◌, ◌^◌, IfSome, map, option_map, string_bytes};
 ghost use Rattle.words.specs.Command.{Reach, check_of, command_in, command_named, help_mate_of, mate_in, perft_in};
 ghost use Rattle.words.specs.Command.{perft_of, reach_in, self_mate_of, stipulate_in, without_arguments};
 ghost use Rattle.words.specs.Command.{RulesOf, generate_by, generate_in, keys_in, keys_of, pn_mate_in, pn_mate_of};
-ghost use Rattle.words.specs.Command.{rules_in};
+ghost use Rattle.words.specs.Command.{flag_in, flag_of, rules_in};
 ghost use Rattle.words.specs.Number.{number_in as NumberIn};
 ghost use Rattle.words.specs.View.{HasPlies, command_seen, texts};
 
@@ -41,6 +41,8 @@ pub enum Command<'a> {
     Moves,
     /// `status`: how the game of that text stands, and its last position.
     Status,
+    /// `checkers`: the squares of the pieces that attack the king of the side that is to move in that position.
+    Checkers,
     /// `perft N`: how many lists of this many legal moves in turn, from 1 to 9, there are from that position.
     Perft(u8),
     /// `check`: whether the strategy of the input wins the game of the input, by the goal that stands between them.
@@ -80,6 +82,10 @@ pub enum Command<'a> {
     },
     /// `rules NAME`: the options and the pieces of the variant of this name, those that it inherits too.
     RulesOf(&'a str),
+    /// `help`, and `--help` alone: the commands and the options.
+    Help,
+    /// `--version` alone: the name of the program and its version.
+    Version,
 }
 
 // A command that takes no arguments.
@@ -272,6 +278,7 @@ fn command_named<'a>(name: &str, arguments: &[&'a str]) -> Option<Command<'a>>
         "xboard" => without_arguments(Command::Xboard, arguments),
         "moves" => without_arguments(Command::Moves, arguments),
         "status" => without_arguments(Command::Status, arguments),
+        "checkers" => without_arguments(Command::Checkers, arguments),
         "perft" => perft_in(arguments),
         "check" => without_arguments(Command::Check, arguments),
         "stipulate" => stipulate_in(arguments),
@@ -282,6 +289,7 @@ fn command_named<'a>(name: &str, arguments: &[&'a str]) -> Option<Command<'a>>
         "pnmate" => pn_mate_in(arguments),
         "rules" => rules_in(arguments),
         "keys" => keys_in(arguments),
+        "help" => without_arguments(Command::Help, arguments),
         _ => None,
     }
 }
@@ -294,5 +302,28 @@ pub(crate) fn command_in<'a>(words: &[&'a str]) -> Option<Command<'a>>
     match words {
         [] => Some(Command::Uci),
         [name, arguments @ ..] => command_named(name, arguments),
+    }
+}
+
+// The command of a word that begins with two dashes and is no option.
+fn flag_of(word: &str) -> Option<Command<'static>>
+    ensures is { option_map command_seen result ≡ flag_of word.now }
+    ensures plies { IfSome result HasPlies }
+{
+    match word {
+        "--help" => Some(Command::Help),
+        "--version" => Some(Command::Version),
+        _ => None,
+    }
+}
+
+/// The command of such a word, where it is the only one.
+pub(crate) fn flag_in(words: &[String]) -> Option<Command<'static>>
+    ensures is { option_map command_seen result ≡ flag_in (map string_bytes words.now) }
+    ensures plies { IfSome result HasPlies }
+{
+    match words {
+        [word] => flag_of(word.as_str()),
+        _ => None,
     }
 }

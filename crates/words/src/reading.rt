@@ -2,12 +2,12 @@
 ghost use Rattle.std.specs.Prelude.{◌≡◌, ◌<◌, ◌≤◌, ◌^◌, IfOk, IfSome, length, map, option_map, string_bytes, true};
 ghost use Rattle.std.specs.List.{list_all, list_any};
 ghost use Rattle.clap.specs.Words.{app_of, kind_of};
-ghost use Rattle.words.specs.Asked.{are_sound, asked, asked_by, is_sound, threads_in};
+ghost use Rattle.words.specs.Asked.{are_sound, asked, asked_after, asked_by, is_sound, threads_in};
 ghost use Rattle.words.specs.Options.{has_no_dash, is_stray, is_value};
 ghost use Rattle.words.specs.Reader.{reader};
 ghost use Rattle.words.specs.View.{HasPlies, asked_seen, text_in, texts};
 
-use crate::command::{Command, command_in};
+use crate::command::{Command, command_in, flag_in};
 use crate::number::number_in;
 use crate::reader::reader;
 use clap::error::ErrorKind;
@@ -100,9 +100,9 @@ fn asked_by<'a>(
     }
 }
 
-/// What the words of a run ask, the program's name left out. None exactly where they are not of the command set.
-pub fn read_words<'a>(alloc: Global, words: &'a [String]) -> Result<Option<Asked<'a>>, Memory>
-    ensures is { IfOk result (λ given. option_map asked_seen given ≡ asked (map string_bytes words.now)) }
+// What options and the words after them ask.
+fn read_options<'a>(alloc: Global, words: &'a [String]) -> Result<Option<Asked<'a>>, Memory>
+    ensures is { IfOk result (λ given. option_map asked_seen given ≡ asked_after (map string_bytes words.now)) }
     ensures least { IfOk result (λ given. IfSome given (λ a. 1 ≤ a.threads)) }
     ensures most { IfOk result (λ given. IfSome given (λ a. a.threads ≤ 64)) }
     ensures plies { IfOk result (λ given. IfSome given (λ a. HasPlies a.command)) }
@@ -120,5 +120,22 @@ pub fn read_words<'a>(alloc: Global, words: &'a [String]) -> Result<Option<Asked
             ErrorKind::OutOfMemory => Err(Memory),
             _ => Ok(None),
         },
+    }
+}
+
+/// What the words of a run ask, the program's name left out. None exactly where they are not of the command set.
+pub fn read_words<'a>(alloc: Global, words: &'a [String]) -> Result<Option<Asked<'a>>, Memory>
+    ensures is { IfOk result (λ given. option_map asked_seen given ≡ asked (map string_bytes words.now)) }
+    ensures least { IfOk result (λ given. IfSome given (λ a. 1 ≤ a.threads)) }
+    ensures most { IfOk result (λ given. IfSome given (λ a. a.threads ≤ 64)) }
+    ensures plies { IfOk result (λ given. IfSome given (λ a. HasPlies a.command)) }
+{
+    match flag_in(words) {
+        Some(command) => Ok(Some(Asked {
+            variants: None,
+            threads: 1,
+            command,
+        })),
+        None => read_options(alloc, words),
     }
 }

@@ -17,13 +17,13 @@ use Rattle.watching.specs.Events.{Event, Hears, Says, Reads, readings}
 use Rattle.session_model.specs.CecpLines.{command_of}
 use Rattle.session_model.specs.CecpSession.{Concludes, Posts, ThinksFrom, is_moveless, task_of}
 use Rattle.session_model.specs.CecpState.{State, names_text, silent}
-use Rattle.session_model.specs.Events.{clocked}
+use Rattle.session_model.specs.Events.{after_reading, clocked}
 use Rattle.session_model.specs.Numbers.{number_read}
 use Rattle.session_model.specs.Thinking.{Report, Points, Ending, Whole, InSearch, InSolve, Interrupted, OutOfNodes, OutOfTime, MayEnd, last_best, reported}
 use Rattle.session_model.specs.Turns.{Turn}
 
 unfoldable thinking_opened : Unit {0}
-unfolding are_digits value_after number_read command_of clocked digits text_of
+unfolding are_digits value_after number_read command_of clocked after_reading digits text_of
 thinking_opened = tt
 
 -- ---- where it ends without a move
@@ -78,6 +78,16 @@ posted = (refl, refl)
 posted_after_a_line : Posts true (Reads 1000 ∷ Hears (Text []) ∷ Reads 1239 ∷ Says (codes "1 12 23 5 g6g7\n") ∷ []) (report_at 1239 ∷ [])
 unfolding thinking_opened
 posted_after_a_line = (refl, refl)
+
+-- two depths, each after a reading of its own
+posted_twice : Posts true (Reads 1000 ∷ Reads 1239 ∷ Says (codes "1 12 23 5 g6g7\n") ∷ Reads 1500 ∷ Says (codes "2 12 50 5 g6g7\n") ∷ []) (report_at 1239 ∷ report_at 1500 ∷ [])
+unfolding thinking_opened
+posted_twice = (refl, refl)
+
+-- near miss: the first reading is the time of no line
+posted_by_the_first : (text : List ℕ) (report : Report) → Posts true (Reads 1000 ∷ Says text ∷ []) (report ∷ []) → ⊥
+unfolding thinking_opened
+posted_by_the_first text report h = let wrong = h.1 in cc
 
 abbrev first_clock : List (Option ℕ) → ℕ
 first_clock [] = 0

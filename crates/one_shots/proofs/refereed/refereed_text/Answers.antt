@@ -17,6 +17,9 @@ returns-in-Moves-clause-heard g c = rw c.in-Moves.is c.moves.ensures.heard
 pub returns-in-Status-clause-heard : goal.returns-in-Status-clause-heard
 returns-in-Status-clause-heard g c = rw c.in-Status.is c.status.ensures.heard
 
+pub returns-in-Checkers-clause-heard : goal.returns-in-Checkers-clause-heard
+returns-in-Checkers-clause-heard g c = rw c.in-Checkers.is c.checkers_text.ensures.heard
+
 pub returns-in-Perft-clause-heard : goal.returns-in-Perft-clause-heard
 returns-in-Perft-clause-heard g c = rw c.in-Perft.is c.perft.ensures.heard
 
@@ -49,3 +52,15 @@ returns-in-RulesOf-clause-heard g c = rw c.in-RulesOf.is (heard_nothing _ _ _ (�
 
 pub returns-in-RulesOf-clause-cause : goal.returns-in-RulesOf-clause-cause
 returns-in-RulesOf-clause-cause g c = record { later = omega arith; failed = λ unheard. absurd (c.rules_text.ensures.reads_nothing unheard) }
+
+pub returns-in-Help-clause-heard : goal.returns-in-Help-clause-heard
+returns-in-Help-clause-heard g c = rw c.in-Help.is (heard_nothing _ _ _ (λ lines. c.help.ensures.answers))
+
+pub returns-in-Help-clause-cause : goal.returns-in-Help-clause-cause
+returns-in-Help-clause-cause g c = record { later = omega arith; failed = λ unheard. absurd (c.help.ensures.reads_nothing unheard) }
+
+pub returns-in-Version-clause-heard : goal.returns-in-Version-clause-heard
+returns-in-Version-clause-heard g c = rw c.in-Version.is (heard_nothing _ _ _ (λ lines. c.version.ensures.answers))
+
+pub returns-in-Version-clause-cause : goal.returns-in-Version-clause-cause
+returns-in-Version-clause-cause g c = record { later = omega arith; failed = λ unheard. absurd (c.version.ensures.reads_nothing unheard) }

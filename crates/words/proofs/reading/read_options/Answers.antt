@@ -4,10 +4,10 @@ use Rattle.std.proofs.lemmas.List.{length-map}
 use Rattle.words.specs.View.{texts}
 use Rattle.clap.specs.Words.{app_of, is_simple, is_simple_and_free, found_of, fault_of, Kinds, HasKind}
 use Rattle.clap.specs.Lexer.{usize_max}
-use Rattle.words.specs.Asked.{asked, asked_by}
+use Rattle.words.specs.Asked.{asked_after, asked_by}
 use Rattle.words.specs.Options.{Text}
 use Rattle.words.proofs.Parse.{parse_asked, parse_fails, stray_asked, texts_or}
-use Rattle.words.proofs.reading.read_words.Goals as goal
+use Rattle.words.proofs.reading.read_options.Goals as goal
 
 pub returns-then-has_stray-clause-is : goal.returns-then-has_stray-clause-is
 returns-then-has_stray-clause-is c = sym (stray_asked None [] (map string_bytes c.args.words.now) (sym c.has_stray.ensures.stray ∙ c.if-has_stray.true))
@@ -29,7 +29,7 @@ returns-clause-is c = go (fault_of (app_of c.in_ok-reader.field-0) words) refl (
     words : List Text
     words = map string_bytes c.args.words.now
 
-    go : (kinds : Kinds) → fault_of (app_of c.in_ok-reader.field-0) words ≡ kinds → HasKind kinds c.in-Err.error → None ≡ asked words
+    go : (kinds : Kinds) → fault_of (app_of c.in_ok-reader.field-0) words ≡ kinds → HasKind kinds c.in-Err.error → None ≡ asked_after words
     go [] is (inl memory) = absurd (c.in_default.not-OutOfMemory (c.kind.ensures ∙ memory))
     go [] is (inr among) = absurd among
     go (k ∷ ks) is has =

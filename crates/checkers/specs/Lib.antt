@@ -1,0 +1,3 @@
+pub mod Checkers
+pub mod CheckersText
+pub mod SquareList
