@@ -1,0 +1,1 @@
+"""A laboratory for designers of variants: games that the program plays, and a report on them (docs/LAB.md)."""
