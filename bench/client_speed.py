@@ -5,7 +5,7 @@ Usage: bench/client_speed.py [--positions N] [--variant NAME ..] [--sessions N] 
        sessions at once by default; VENGINE, or the program of these sources in release/out or release)
 
 The positions are those of random games from the start, up to 100 plies long. Of each, one after the other in the same run: `position` of
-clients/vengine.py, which asks a session that is held; and the commands `moves` and `status`, each of which is a process. Then the same
+python/vengine, which asks a session that is held; and the commands `moves` and `status`, each of which is a process. Then the same
 positions by as many sessions as are asked for, each with a thread. Prints calls a second of each, and the ratio of the first two. Ends
 with an error where they say different things.
 """

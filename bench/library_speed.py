@@ -6,7 +6,7 @@ Usage: bench/library_speed.py LIBRARY.so [--positions N] [--variant NAME ..]    
 
 The positions are those of random games from the start, up to 100 plies long. In one run, one after the other for each variant: a game that the library holds,
 in which each move is played and then the moves and the status are asked; the commands `moves` and `status` by the library, each asked with the moves that
-led to the position; `position` of a session of clients/vengine.py; and, where it can be had, pyffish, or else a session of Debian's fairy-stockfish, which is
+led to the position; `position` of a session of python/vengine; and, where it can be had, pyffish, or else a session of Debian's fairy-stockfish, which is
 asked for its legal moves alone, by `go perft 1`. Ends with an error where library and session say different things.
 """
 import argparse

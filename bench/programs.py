@@ -1,4 +1,4 @@
-"""What the scripts of this folder share: where the programs are, and the way to clients/vengine.py, by which they find the program and
+"""What the scripts of this folder share: where the programs are, and the way to python/vengine, by which they find the program and
 hold sessions. A script imports this module before that one.
 
 The program is that of this repository, or another one that VENGINE=FILE names. OTHER is Fairy-Stockfish, if Debian's package is there.
@@ -12,7 +12,7 @@ SCRIPT = os.path.splitext(os.path.basename(sys.argv[0]))[0]
 TOP = os.path.abspath(os.path.join(os.path.dirname(os.path.abspath(__file__)), ".."))
 OTHER = next((path for path in ("/usr/games/fairy-stockfish", "/usr/bin/fairy-stockfish") if os.path.exists(path)), None)
 
-sys.path.insert(0, os.path.join(TOP, "clients"))
+sys.path.insert(0, os.path.join(TOP, "python"))
 from vengine import find_program  # noqa: E402, F401
 
 

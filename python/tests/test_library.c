@@ -1,5 +1,5 @@
 /* Calls the library as a careless or hostile caller may, and prints a line for each fault that it finds; the last line is
- * 'N passed, M failed'. `clients/test_library.py` compiles and runs it. */
+ * 'N passed, M failed'. `python/tests/test_library.py` compiles and runs it. */
 #include "vengine.h"
 
 #include <malloc.h>

@@ -1,7 +1,7 @@
 #!/usr/bin/env python3
-"""Tests of vengine.py over the real program, and over programs that fail.
+"""Tests of the package over the real program, and over programs that fail.
 
-Usage: clients/test_vengine.py [TEST ..]      (VENGINE=FILE names another program than that of this repository, which is built where it has to be)
+Usage: python/tests/test_vengine.py [TEST ..]      (VENGINE=FILE names another program than that of this repository, which is built where it has to be)
 
 Expected values are those of the pages, of published counts, and of Fairy-Stockfish's Python module pyffish, where it can be imported; where
 it is missing, that part is skipped. The examples of docs/CLIENT.md are run too.
@@ -19,15 +19,16 @@ import time
 import unittest
 from concurrent.futures import ThreadPoolExecutor
 
-from vengine import (FEN_OK, VALUE_DRAW, VALUE_MATE, BadInput, Busy, Ended, Engine, Fault, Info, Key, Lines, NotOver, Result, Section, TimedOut,
-                     Unsupported, find_program, nodes_of)
+sys.path.insert(0, os.path.join(os.path.dirname(os.path.abspath(__file__)), ".."))
+from vengine import (FEN_OK, VALUE_DRAW, VALUE_MATE, BadInput, Busy, Ended, Engine, Fault, Info, Key, Lines, NotOver, Referee, Result, Section, TimedOut,
+                     Unsupported, __version__, find_program, nodes_of)
 
 try:
     import pyffish
 except ImportError:
     pyffish = None
 
-TOP = os.path.abspath(os.path.join(os.path.dirname(os.path.abspath(__file__)), ".."))
+TOP = os.path.abspath(os.path.join(os.path.dirname(os.path.abspath(__file__)), "..", ".."))
 PROGRAM = find_program()
 FOOLS_MATE = ["f2f3", "e7e5", "g2g4", "d8h4"]
 MATE_IN_TWO = "7k/R7/5K2/8/8/8/8/8 w - - 0 1"
@@ -138,6 +139,48 @@ class Games(EngineCase):
                 self.assertEqual([*at.moves, f"moves {len(at.moves)}"], self.engine.command("moves", text=text).splitlines())
                 self.assertEqual(at.fen, self.engine.command("status", text=text).splitlines()[1])
                 moves.append(chance.choice(at.moves))
+
+
+class Checks(EngineCase):
+    def setUp(self):
+        super().setUp()
+        try:
+            self.engine.checkers("chess")
+            self.engine.version()
+        except Unsupported as error:
+            self.skipTest(f"this program is of before 1.0.0: {error}")
+
+    def test_the_pieces_that_give_check(self):
+        rows = [("chess", "startpos", FOOLS_MATE, ["h4"]), ("chess", "startpos", FOOLS_MATE[:3], []),
+                ("chess", "4k3/8/5N2/8/8/8/8/K3R3 b - - 0 1", [], ["e1", "f6"]),
+                ("xiangqi", "4k4/9/9/9/9/4P4/9/9/9/3KC4 b - - 0 1", [], ["e1"]), ("xiangqi", "4k4/9/9/9/9/9/9/9/9/3KC4 b - - 0 1", [], []),
+                ("antichess", "startpos", FOOLS_MATE, [])]
+        referee = Referee(library="", program=PROGRAM)
+        for variant, fen, moves, squares in rows:
+            with self.subTest(variant=variant, fen=fen):
+                self.assertEqual(self.engine.checkers(variant, fen, moves), squares)
+                self.assertEqual(self.engine.gives_check(variant, fen, moves), squares != [])
+                self.assertEqual(referee.checkers(variant, fen, moves), squares)
+        self.fault("PositionFault 2 BadMove 1 e2e5", self.engine.checkers, "chess", "startpos", ["e2e5"])
+
+    def test_the_version(self):
+        self.assertEqual(".".join(map(str, self.engine.version())), __version__)
+        self.assertEqual(self.engine.info(), f"vengine {__version__}")
+        self.assertEqual(Referee(library="", program=PROGRAM).version(), self.engine.version())
+
+
+class Captures(EngineCase):
+    def test_captures_and_other_moves(self):
+        opened = ["e2e4", "d7d5"]
+        rows = [("chess", "startpos", opened, "e4d5", True), ("chess", "startpos", opened, "e4e5", False),
+                ("chess", "startpos", ["e2e4", "a7a6", "e4e5", "d7d5"], "e5d6", True),
+                ("chess", "1n2k3/P7/8/8/8/8/8/4K3 w - - 0 1", [], "a7b8q", True), ("chess", "1n2k3/P7/8/8/8/8/8/4K3 w - - 0 1", [], "a7a8q", False),
+                ("chess", "r3k2r/8/8/8/8/8/8/R3K2R b KQkq - 0 1", [], "e8g8", False), ("chess", "r3k2r/8/8/8/8/8/8/R3K2R b KQkq - 0 1", [], "a8a1", True),
+                ("crazyhouse", "startpos", [*opened, "e4d5"], "d8d5", True), ("crazyhouse", "startpos", [*opened, "e4d5", "d8d5"], "P@d6", False)]
+        for variant, fen, moves, move, is_one in rows:
+            with self.subTest(variant=variant, fen=fen, move=move):
+                self.assertEqual(self.engine.is_capture(variant, fen, moves, move), is_one)
+        self.fault("PositionFault 2 BadMove 3 e4e6", self.engine.is_capture, "chess", "startpos", opened, "e4e6")
 
 
 class Faults(EngineCase):
@@ -628,7 +671,7 @@ class Ends(Case):
     def test_a_script_that_does_not_close(self):
         for ending in ("", "raise SystemExit(1)", "os.kill(os.getpid(), 9)"):
             text = f"import os, sys\nfrom vengine import Engine\nengine = Engine({PROGRAM!r})\nengine.start('chess')\nprint(engine.pid, flush=True)\n"
-            done = subprocess.run([sys.executable, "-c", text + ending], cwd=os.path.join(TOP, "clients"), capture_output=True, text=True)
+            done = subprocess.run([sys.executable, "-c", text + ending], cwd=os.path.join(TOP, "python"), capture_output=True, text=True)
             with self.subTest(ending=ending):
                 self.assertTrue(is_gone(int(done.stdout)))
 
@@ -760,7 +803,7 @@ class Page(Case):
         with open(os.path.join(TOP, "docs", "CLIENT.md")) as file:
             blocks = re.findall(r"```python\n(.*?)```\n(?:\n```text\n(.*?)```)?", file.read(), re.DOTALL)
         self.assertGreater(len(blocks), 5)
-        path = {**os.environ, "VENGINE": PROGRAM, "PYTHONPATH": os.path.join(TOP, "clients")}
+        path = {**os.environ, "VENGINE": PROGRAM, "PYTHONPATH": os.path.join(TOP, "python")}
         for text, printed in blocks:
             with self.subTest(text=text):
                 done = subprocess.run([sys.executable, "-W", "error", "-c", text], cwd=TOP, env=path, stdout=subprocess.PIPE,

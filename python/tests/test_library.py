@@ -1,7 +1,7 @@
 #!/usr/bin/env python3
 """Tests of the library of include/vengine.h: by a C program that is compiled here, from Python, and by every case of ./test.
 
-Usage: clients/test_library.py [LIBRARY.a] [TEST ..]      (release/libvengine.a by default)
+Usage: python/tests/test_library.py [LIBRARY.a] [TEST ..]      (release/libvengine.a by default)
 
 What the library says is held to what release/vengine, or the program that VENGINE names, says. A test whose tool is missing is skipped, with a word. The last
 line is 'N passed, M failed'.
@@ -16,10 +16,11 @@ import tempfile
 import threading
 import unittest
 
-from vengine import (NOT_REFEREED, BadInput, Fault, Library, Referee, Result, Unsupported, game_text)
+sys.path.insert(0, os.path.join(os.path.dirname(os.path.abspath(__file__)), ".."))
+from vengine import NOT_REFEREED, BadInput, Fault, Library, Referee, Result, Unsupported, __version__, game_text
 
 HERE = os.path.dirname(os.path.abspath(__file__))
-TOP = os.path.dirname(HERE)
+TOP = os.path.dirname(os.path.dirname(HERE))
 ARCHIVE = os.path.abspath(sys.argv.pop(1) if sys.argv[1:2] and sys.argv[1].endswith(".a") else os.path.join(TOP, "release", "libvengine.a"))
 PROGRAM = os.environ.get("VENGINE", os.path.join(TOP, "release", "vengine"))
 COMPILER = next(filter(None, map(shutil.which, ("cc", "gcc", "clang"))), None)
@@ -184,6 +185,19 @@ class TheReferee(unittest.TestCase):
         with referee.game("chess") as game, self.assertRaises(BadInput):
             game.undo()
 
+    def test_checkers_and_the_version(self):
+        referee = Referee(library=shared())
+        with referee.game("chess", "startpos", FOOLS_MATE) as game:
+            try:
+                self.assertEqual(game.checkers(), ["h4"])
+            except Unsupported:
+                self.skipTest("this library is of before 1.0.0")
+            self.assertEqual(referee.checkers("chess", "startpos", FOOLS_MATE), ["h4"])
+            game.undo()
+            self.assertEqual(game.checkers(), [])
+        self.assertEqual(".".join(map(str, Library(shared()).version())), __version__)
+        self.assertEqual(referee.version(), Library(shared()).version())
+
     def test_random_games(self):
         draw = random.Random(3)
         library, process = self.both()
@@ -201,7 +215,7 @@ class Cases(unittest.TestCase):
         """./test over a program that answers by the library what it can, and hands on the rest. The cases of streams are those of a process alone."""
         stand_in = os.path.join(room.name, "vengine")
         with open(stand_in, "w") as file:
-            file.write(STAND_IN.format(python=sys.executable, here=HERE, library=shared(), program=PROGRAM))
+            file.write(STAND_IN.format(python=sys.executable, here=os.path.join(TOP, "python"), library=shared(), program=PROGRAM))
         os.chmod(stand_in, 0o755)
         done = subprocess.run([os.path.join(TOP, "test"), stand_in], stdout=subprocess.PIPE, text=True)
         *failed, counts = done.stdout.splitlines()
@@ -222,7 +236,7 @@ for at, word in enumerate(words):
     if path and os.path.isfile(path):
         file = read_file(path)
 name = next((word for at, word in enumerate(words) if not word.startswith("-") and (not at or words[at - 1] not in ("--variants", "--threads"))), "uci")
-if name in ("moves", "status", "perft", "check", "stipulate", "variants", "reach", "rules") and not any(c in w for w in words for c in "\\n\\udcff"):
+if name in ("moves", "status", "checkers", "perft", "check", "stipulate", "variants", "reach", "rules") and not any(c in w for w in words for c in "\\n\\udcff"):
     given = sys.stdin.buffer.read() if name not in ("variants", "reach", "rules") else b""
     status, said = Library({library!r}).answer(words, file, given)
     if status != NOT_REFEREED:
@@ -252,7 +266,7 @@ class ThePage(unittest.TestCase):
         blocks = self.blocks("python")
         self.assertTrue(blocks)
         for code, printed in blocks:
-            env = {**os.environ, "PYTHONPATH": HERE, "VENGINE_LIBRARY": shared()}
+            env = {**os.environ, "PYTHONPATH": os.path.join(TOP, "python"), "VENGINE_LIBRARY": shared()}
             self.assertEqual(subprocess.run([sys.executable, "-c", code], env=env, check=True, stdout=subprocess.PIPE, text=True).stdout, printed)
 
 
