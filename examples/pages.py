@@ -2,7 +2,8 @@
 
 A command is a line `$ COMMAND` of a block that is indented by four spaces or fenced; it goes on after a backslash, and to the end of a here-document.
 The lines up to the next command or the end of the block are what it prints, both streams together. The commands of a page run in turn, in one
-new folder that has `vengine`, `examples`, `crates`, `bench` and `docs`, with `vengine` in the path. Blocks without a `$` are not run.
+new folder that has `vengine`, `examples`, `crates`, `bench`, `docs` and `python`, with `vengine` in the path and the package of the clone for
+Python. Blocks without a `$` are not run.
 """
 import os
 import re
@@ -76,9 +77,10 @@ class Page:
         """The name of each command, and what went wrong or None."""
         with tempfile.TemporaryDirectory() as folder:
             os.symlink(program, os.path.join(folder, "vengine"))
-            for name in ("examples", "crates", "bench", "docs"):
+            for name in ("examples", "crates", "bench", "docs", "python"):
                 os.symlink(os.path.join(TOP, name), os.path.join(folder, name))
-            env = {**os.environ, "PATH": f"{folder}:{os.environ['PATH']}", "VENGINE": program}
+            env = {**os.environ, "PATH": f"{folder}:{os.environ['PATH']}", "VENGINE": program, "PYTHONPATH": os.path.join(TOP, "python"),
+                   "PYTHONDONTWRITEBYTECODE": "1"}
             how = {"cwd": folder, "env": env, "stdin": subprocess.DEVNULL, "stdout": subprocess.PIPE, "stderr": subprocess.STDOUT}
             return list(zip(self.names(), [self.fault(text, printed, how) for _, text, printed in self.commands]))
 
